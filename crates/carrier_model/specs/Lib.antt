@@ -1,0 +1,10 @@
+pub mod Attributes
+pub mod Bytes
+pub mod Items
+pub mod Keys
+pub mod Places
+pub mod Reasons
+pub mod Sorted
+pub mod Trail
+pub mod Tree
+pub mod Values
