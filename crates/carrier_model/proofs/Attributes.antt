@@ -1,8 +1,8 @@
 -- An attribute is read as it is spelled.
-use Rattle.std.proofs.Common.{◌≡◌, ◌⊎◌, inl, inr, ℕ, ◌+◌, ◌<◌, ◌≤◌, ◌^◌, Bool, true, false, cond, List, [], ◌∷◌, ◌++◌, length, get_or, take, drop, leb, eqb, Option, Some, None, refl, sym, ap, subst, ◌∙◌, append_assoc, arith}
-use Rattle.std.proofs.lemmas.List.{append-nil, length-append, length-take, length-drop, take_at, drop_at, drop-drop, take-append-drop, drop_more, get_or-drop}
-use Rattle.std.proofs.lemmas.Bool.{leb-true, le-leb, eqb-true, eq-eqb, and_parts, and_from}
-use Rattle.carrier_model.specs.Trail.{Fault, Test, test, first_fault}
+use Rattle.std.proofs.Common.{◌≡◌, ℕ, ◌+◌, ◌≤◌, Bool, true, false, cond, List, [], ◌∷◌, ◌++◌, length, get_or, take, drop, Option, Some, None, refl, sym, ap, ◌∙◌, append_assoc, arith}
+use Rattle.std.proofs.lemmas.List.{length-append, length-take, length-drop, take_at, drop_at, drop-drop, take-append-drop, drop_more}
+use Rattle.std.proofs.lemmas.Bool.{leb-true, le-leb, eqb-true, eq-eqb}
+use Rattle.carrier_model.specs.Trail.{Fault, Test, first_fault}
 use Rattle.carrier_model.specs.Bytes.{AllBytes, number16, number32, le16, le32, sum16}
 use Rattle.carrier_model.specs.Items.{Begins}
 use Rattle.carrier_model.specs.Attributes.{Attr, is_level, spelling, IsAttr, attr_len, attr_tests, attrs, attr, attr_of, after_attr}

@@ -1,8 +1,8 @@
 -- Two ways to cut the same bytes into items agree as far as both go.
-use Rattle.std.proofs.Common.{◌≡◌, ◌⊎◌, inl, inr, ℕ, suc, ◌+◌, ◌<◌, List, [], ◌∷◌, ◌++◌, length, Option, Some, None, refl, sym, ap, subst, ◌∙◌, append_assoc, arith}
+use Rattle.std.proofs.Common.{◌≡◌, ◌⊎◌, inl, inr, ℕ, ◌<◌, List, [], ◌∷◌, ◌++◌, length, Option, Some, None, refl, sym, ap, subst, ◌∙◌, append_assoc, arith}
 use Rattle.std.specs.List.{flat_map}
 use Rattle.std.proofs.lemmas.List.{append-nil, length-append}
-use Rattle.carrier_model.specs.Trail.{Fault, Test, first_fault}
+use Rattle.carrier_model.specs.Trail.{Fault, first_fault}
 use Rattle.carrier_model.specs.Items.{Kind, AllGood, behind, Begins, Spells, FaultBehind}
 
 -- what a kind of item owes: its spelling passes its tests, says which item it is and where it ends, and is not empty

@@ -1,7 +1,12 @@
 pub mod Attributes
+pub mod Canonical
 pub mod Items
+pub mod Jobs
+pub mod Lists
 pub mod Numbers
 pub mod Orders
 pub mod Place
+pub mod SortedLists
 pub mod Stream
+pub mod Tnef
 pub mod Trees

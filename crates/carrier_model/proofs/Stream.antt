@@ -1,14 +1,14 @@
 -- A stream means one list of attributes, or has one first fault.
-use Rattle.std.proofs.Common.{◌≡◌, ◌⊎◌, inl, inr, ℕ, ◌+◌, ◌<◌, ◌≤◌, ◌^◌, Bool, true, false, List, [], ◌∷◌, ◌++◌, length, take, drop, Option, Some, None, Result, Ok, Err, refl, sym, ap, subst, ◌∙◌, append_assoc, arith}
+use Rattle.std.proofs.Common.{◌≡◌, inl, inr, ℕ, ◌+◌, ◌≤◌, List, [], ◌++◌, length, take, drop, Option, Some, None, sym, ap, ◌∙◌, arith}
 use Rattle.std.specs.List.{flat_map}
-use Rattle.std.proofs.lemmas.List.{append-nil, length-append, length-take, length-drop, take_at, drop_at, drop-drop, take-append-drop}
+use Rattle.std.proofs.lemmas.List.{append-nil, length-append, length-take, length-drop, drop_at, drop-drop, take-append-drop}
 use Rattle.std.proofs.lemmas.Bool.{leb-true, le-leb, eqb-true, eq-eqb, and_parts, and_from}
-use Rattle.carrier_model.specs.Trail.{Fault, Test, first_fault, IsExact}
+use Rattle.carrier_model.specs.Trail.{Fault, first_fault, IsExact}
 use Rattle.carrier_model.specs.Bytes.{AllBytes, number32, le32}
-use Rattle.carrier_model.specs.Items.{Kind, AllGood, Spells, FaultBehind}
-use Rattle.carrier_model.specs.Attributes.{Attr, spelling, attrs, SIGNATURE, Attrs, AttrsFault, BodyFault, head_tests}
+use Rattle.carrier_model.specs.Items.{Spells}
+use Rattle.carrier_model.specs.Attributes.{Attr, spelling, attrs, SIGNATURE, Attrs, AttrsFault, head_tests}
 use Rattle.carrier_model.proofs.Numbers.{number32-le32, number32-front}
-use Rattle.carrier_model.proofs.Items.{Lawful, same_to_end, same_fault, no_fault_before_end}
+use Rattle.carrier_model.proofs.Items.{same_to_end, same_fault, no_fault_before_end}
 use Rattle.carrier_model.proofs.Attributes.{passed, passing, attrs_lawful}
 
 pub record Parts (at : ℕ) (bytes : List ℕ) (l : List Attr) : Type 0 where

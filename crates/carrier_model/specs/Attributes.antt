@@ -1,10 +1,10 @@
 -- A stream of attributes: a signature, a key, and attributes up to the end.
-use Rattle.std.specs.Prelude.{◌≡◌, ◌⊎◌, ℕ, ◌+◌, ◌^◌, ◌<◌, ◌==◌, ◌||◌, ◌&&◌, Bool, true, List, [], ◌∷◌, ◌++◌, length, take, drop, slice_index, nat_le, Option, Some, None, IsTrue}
+use Rattle.std.specs.Prelude.{◌≡◌, ◌⊎◌, ℕ, ◌+◌, ◌^◌, ◌<◌, ◌==◌, ◌||◌, ◌&&◌, Bool, true, List, [], ◌∷◌, ◌++◌, length, take, drop, slice_index, nat_le, Some, None}
 use Rattle.std.specs.List.{flat_map}
 use Rattle.carrier_model.specs.Reasons.{BAD_SIGNATURE, BAD_LEVEL, TRUNCATED, BAD_SUM}
 use Rattle.carrier_model.specs.Trail.{Fault, Test, test, first_fault}
 use Rattle.carrier_model.specs.Bytes.{number16, number32, le16, le32, sum16}
-use Rattle.carrier_model.specs.Items.{Kind, Spells, FaultBehind, AllGood}
+use Rattle.carrier_model.specs.Items.{Kind, FaultBehind, AllGood}
 
 -- an attribute without where it lies in memory; the offset is that of its level byte
 pub record Attr : Type 0 where

@@ -1,6 +1,6 @@
 -- Items that stand one behind the other, each spelled by bytes of its own. Of an item it may matter what stands
 -- before it: that is the state s, which an item changes by `next`.
-use Rattle.std.specs.Prelude.{◌≡◌, ℕ, ◌<◌, List, [], ◌∷◌, ◌++◌, length, Option, Some}
+use Rattle.std.specs.Prelude.{◌≡◌, ℕ, List, [], ◌∷◌, ◌++◌, Some}
 use Rattle.std.specs.List.{flat_map}
 use Rattle.carrier_model.specs.Trail.{Fault, Test, first_fault}
 

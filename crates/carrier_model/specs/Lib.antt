@@ -1,10 +1,13 @@
 pub mod Attributes
 pub mod Bytes
 pub mod Items
+pub mod Jobs
 pub mod Keys
+pub mod Lists
 pub mod Places
 pub mod Reasons
 pub mod Sorted
+pub mod Tnef
 pub mod Trail
 pub mod Tree
 pub mod Values

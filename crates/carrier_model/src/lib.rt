@@ -4,4 +4,7 @@
 
 mod laws;
 
-pub use laws::{attributes_are_exact, keys_are_ordered};
+pub use laws::{
+    acceptance_is_exact, attributes_are_exact, canonical_means_the_message, keys_are_ordered,
+    lists_are_exact, messages_are_exact,
+};

@@ -1,0 +1,35 @@
+-- What a translation accepts and refuses, by the bytes alone.
+use Rattle.std.specs.Prelude.{◌≡◌, ◌⊎◌, ℕ, ◌<◌, ◌≤◌, ◌==◌, ◌&&◌, Bool, true, false, List, length, drop, nat_le}
+use Rattle.carrier_model.specs.Reasons.{NOT_BUILT, NOT_A_CARRIER, INPUT_TOO_LONG}
+use Rattle.carrier_model.specs.Trail.{Fault}
+use Rattle.carrier_model.specs.Bytes.{number32}
+use Rattle.carrier_model.specs.Attributes.{SIGNATURE}
+use Rattle.carrier_model.specs.Tree.{Message}
+use Rattle.carrier_model.specs.Tnef.{TnefMeans, TnefFault}
+
+-- the most bytes of an input
+abbrev pub LIMIT : ℕ
+LIMIT = 268435456
+
+-- the bytes begin as a TNEF stream
+abbrev pub is_signed : List ℕ → Bool
+is_signed bytes = nat_le 4 (length bytes) && (number32 bytes == SIGNATURE)
+
+-- the bytes begin as a compound file: D0 CF 11 E0 A1 B1 1A E1
+abbrev pub is_compound : List ℕ → Bool
+is_compound bytes = nat_le 8 (length bytes) && ((number32 bytes == 0xe011cfd0) && (number32 (drop 4 bytes) == 0xe11ab1a1))
+
+-- the bytes are few enough and mean the message
+abbrev pub Accepts : List ℕ → Message → Type 0
+Accepts bytes t = (length bytes ≤ LIMIT) × TnefMeans bytes t
+
+-- bytes in hand: a compound file, which is not built; neither signature; or the first fault of the stream
+abbrev pub CarrierFault : List ℕ → Fault → Type 0
+CarrierFault bytes g =
+    ((is_compound bytes ≡ true) × (g ≡ (NOT_BUILT, 0)))
+    ⊎ (((is_compound bytes ≡ false) × (is_signed bytes ≡ false) × (g ≡ (NOT_A_CARRIER, 0)))
+    ⊎ ((is_compound bytes ≡ false) × (is_signed bytes ≡ true) × TnefFault bytes g))
+
+-- too many bytes, or the first fault of those in hand
+abbrev pub FaultOf : List ℕ → Fault → Type 0
+FaultOf bytes g = ((LIMIT < length bytes) × (g ≡ (INPUT_TOO_LONG, LIMIT))) ⊎ ((length bytes ≤ LIMIT) × CarrierFault bytes g)
