@@ -1,13 +1,14 @@
 -- A strictly sorted list is known by its elements, and one more element changes it as expected.
 use Rattle.std.proofs.Common.{◌≡◌, ◌⊎◌, inl, inr, ℕ, zero, suc, List, [], ◌∷◌, refl, sym, ap, subst, ◌∙◌, arith}
 use Rattle.std.specs.Prelude.{IsPermutation, Contains}
-use Rattle.std.specs.List.{insert}
 use Rattle.std.specs.Cmp.{IsTotalOrder}
 use Rattle.std.specs.Ordering.{ordering_reverse}
 use Rattle.std.specs.declared.cmp.Ordering.{Ordering}
 use Rattle.std.specs.declared.cmp.Ordering.TheVariants.{Less, Equal, Greater}
 use Rattle.std.proofs.lemmas.List.Sorted.{Contains-permutation, IsPermutation-sym, IsPermutation-insert}
+use Rattle.carrier_model.specs.Places.{IsGap}
 use Rattle.carrier_model.specs.Sorted.{IsStrictlySorted, with_element}
+use Rattle.carrier_model.proofs.Place.{with_element_gap, sorted_insert}
 
 pub in_head : {A : Type 0} (x : A) (xs : List A) → Contains (x ∷ xs) x
 in_head x xs = (0, omega arith, refl)
@@ -65,16 +66,39 @@ module _ {A : Type 0} {R : A → A → Ordering} (o : IsTotalOrder R) where
       (λ z c. Contains-permutation l n z q (Contains-permutation m l z (IsPermutation-sym l m p) c))
       (λ z c. Contains-permutation l m z p (Contains-permutation n l z (IsPermutation-sym l n q) c))
 
--- an element that is equal to none goes in somewhere
-pub goes_in : {A : Type 0} (R : A → A → Ordering) (l : List A) (x : A) → ((y : A) → Contains l y → R y x ≡ Equal → ⊥) → (i : ℕ) × (with_element R l x ≡ insert l i x)
-goes_in R [] x new = (0, refl)
-goes_in {A} R (y ∷ ys) x new = by (R y x) refl (goes_in R ys x (λ z c. new z (in_tail y z ys c)))
-  where
-    by : (a : Ordering) → R y x ≡ a → ((i : ℕ) × (with_element R ys x ≡ insert ys i x)) → (i : ℕ) × (with_element R (y ∷ ys) x ≡ insert (y ∷ ys) i x)
-    by Less e (i, is) = (suc i, rw e (ap (λ (l : List A). y ∷ l) is))
-    by Equal e rest = absurd (new y (in_head y ys) e)
-    by Greater e rest = (0, rw e refl)
+module _ {A : Type 0} {R : A → A → Ordering} (o : IsTotalOrder R) where
+  -- an element that is equal to none goes into a gap
+  pub gap_in : (l : List A) (x : A) → IsStrictlySorted R l → ((y : A) → Contains l y → R y x ≡ Equal → ⊥) → (i : ℕ) × IsGap R l x i
+  gap_in [] x s new = (0, record { in_range = omega arith; below = λ j d lt. absurd (omega (arith, lt)); above = λ j d le lt. absurd (omega (arith, lt)) })
+  gap_in (y ∷ ys) x s new = by (R y x) refl (gap_in ys x (tail_sorted o y ys s) (λ z c. new z (in_tail y z ys c)))
+    where
+      flipped : (a b : A) → R a b ≡ Greater → R b a ≡ Less
+      flipped a b e = o.antisymm b a ∙ ap ordering_reverse e
 
--- and the list has it beside the others
-pub with_element_permutes : {A : Type 0} (R : A → A → Ordering) (l : List A) (x : A) → ((y : A) → Contains l y → R y x ≡ Equal → ⊥) → IsPermutation (x ∷ l) (with_element R l x)
-with_element_permutes {A} R l x new = let g = goes_in R l x new in subst (λ (m : List A). IsPermutation (x ∷ l) m) (sym g.1) (IsPermutation-insert l g.0 x)
+      behind : (j : ℕ) (d : A) → j < length ys → R y x ≡ Greater → R (get_or ys j d) x ≡ Greater
+      behind j d lt e = o.antisymm (get_or ys j d) x ∙ ap ordering_reverse (o.trans x y (get_or ys j d) (flipped y x e) (s 0 (suc j) d (omega arith) (omega arith)))
+
+      by : (a : Ordering) → R y x ≡ a → ((i : ℕ) × IsGap R ys x i) → (i : ℕ) × IsGap R (y ∷ ys) x i
+      by Less e (i, g) = (suc i, record { in_range = omega (arith, g.in_range); below = under; above = over })
+        where
+          under : (j : ℕ) (d : A) → j < suc i → R (get_or (y ∷ ys) j d) x ≡ Less
+          under zero d lt = e
+          under (suc j) d lt = g.below j d (omega arith)
+
+          over : (j : ℕ) (d : A) → suc i ≤ j → j < length (y ∷ ys) → R (get_or (y ∷ ys) j d) x ≡ Greater
+          over zero d le lt = absurd (omega arith)
+          over (suc j) d le lt = g.above j d (omega arith) (omega arith)
+      by Equal e rest = absurd (new y (in_head y ys) e)
+      by Greater e rest = (0, record { in_range = omega arith; below = λ j d lt. absurd (omega (arith, lt)); above = over })
+        where
+          over : (j : ℕ) (d : A) → 0 ≤ j → j < length (y ∷ ys) → R (get_or (y ∷ ys) j d) x ≡ Greater
+          over zero d le lt = e
+          over (suc j) d le lt = behind j d (omega arith) e
+
+  -- the list with it is sorted
+  pub with_element_sorted : (l : List A) (x : A) → IsStrictlySorted R l → ((y : A) → Contains l y → R y x ≡ Equal → ⊥) → IsStrictlySorted R (with_element R l x)
+  with_element_sorted l x s new = let g = gap_in l x s new in subst (λ (m : List A). IsStrictlySorted R m) (sym (with_element_gap o l x g.0 g.1)) (sorted_insert o l x g.0 s g.1)
+
+  -- and has it beside the others
+  pub with_element_permutes : (l : List A) (x : A) → IsStrictlySorted R l → ((y : A) → Contains l y → R y x ≡ Equal → ⊥) → IsPermutation (x ∷ l) (with_element R l x)
+  with_element_permutes l x s new = let g = gap_in l x s new in subst (λ (m : List A). IsPermutation (x ∷ l) m) (sym (with_element_gap o l x g.0 g.1)) (IsPermutation-insert l g.0 x)

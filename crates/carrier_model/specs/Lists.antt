@@ -62,15 +62,21 @@ pub record IsInteger (s : State) (p : Integer) : Type 0 where
   pub fits : p.bits < 2 ^ 32
   pub fresh : has_id p.tag_id s.seen ≡ false
 
--- the tests of one property
-abbrev pub prop_tests : State → List ℕ → List Test
-prop_tests s text =
-    test (nat_le 4 (length text)) LIST_TRUNCATED s.place
-    ∷ test (number16 text == INTEGER32) UNKNOWN_LIST_TYPE s.place
-    ∷ test (nat_lt (number16 (drop 2 text)) NAMED) UNKNOWN_LIST_TYPE s.place
-    ∷ test (nat_le 8 (length text)) LIST_TRUNCATED (s.place + 4)
-    ∷ test (not (has_id (number16 (drop 2 text)) s.seen)) DUPLICATE_LIST_PROPERTY s.place
+-- the tests of one property by itself
+abbrev pub form_tests : ℕ → List ℕ → List Test
+form_tests at text =
+    test (nat_le 4 (length text)) LIST_TRUNCATED at
+    ∷ test (number16 text == INTEGER32) UNKNOWN_LIST_TYPE at
+    ∷ test (nat_lt (number16 (drop 2 text)) NAMED) UNKNOWN_LIST_TYPE at
+    ∷ test (nat_le 8 (length text)) LIST_TRUNCATED (at + 4)
     ∷ []
+
+-- that it is not there yet
+abbrev pub is_fresh : State → List ℕ → Test
+is_fresh s text = test (not (has_id (number16 (drop 2 text)) s.seen)) DUPLICATE_LIST_PROPERTY s.place
+
+abbrev pub prop_tests : State → List ℕ → List Test
+prop_tests s text = form_tests s.place text ++ is_fresh s text ∷ []
 
 abbrev pub props : Kind State Integer
 props = record {

@@ -1,0 +1,14 @@
+//! The attributes of a TNEF stream, read and written.
+#![tactic(auto)]
+
+mod attributes;
+mod reading;
+mod sums;
+mod writing;
+
+pub use attributes::{Attribute, Attributes};
+pub use sums::sum16;
+pub use writing::{attribute_head, write_attribute};
+
+#[cfg(test)]
+mod tests;
