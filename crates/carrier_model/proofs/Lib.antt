@@ -1,4 +1,5 @@
 pub mod Attributes
+pub mod Built
 pub mod Canonical
 pub mod Items
 pub mod Jobs

@@ -1,5 +1,5 @@
 -- A stream means one message, or has one first fault.
-use Rattle.std.proofs.Common.{◌≡◌, inl, inr, ℕ, zero, suc, ◌+◌, ◌*◌, ◌≤◌, length, cond, ◌∷◌, ◌++◌, map, arith, Bool, true, false, List, [], Option, Some, None, refl, sym, ap, subst, ◌∙◌}
+use Rattle.std.proofs.Common.{◌≡◌, inl, inr, ℕ, zero, suc, ◌+◌, ◌*◌, ◌≤◌, length, cond, get_or, ◌∷◌, ◌++◌, map, arith, Bool, true, false, List, [], Option, Some, None, refl, sym, ap, subst, ◌∙◌}
 use Rattle.std.specs.Prelude.{find, All}
 use Rattle.std.specs.List.{AllByRecursion, flat_map}
 use Rattle.std.proofs.lemmas.List.{length-append, length-map}
@@ -11,8 +11,8 @@ use Rattle.carrier_model.specs.Bytes.{le16, sum16}
 use Rattle.carrier_model.specs.Items.{AllGood}
 use Rattle.carrier_model.specs.Values.{Prop}
 use Rattle.carrier_model.specs.Tree.{Message}
-use Rattle.carrier_model.specs.Lists.{Integer, plain, props, State, IsBuilt, ListMeans, ListFault}
-use Rattle.carrier_model.specs.Tnef.{has_attr, MESSAGE_PROPS, is_form, Chosen, message_of, TnefMeans, TnefFault, IsBuiltMessage}
+use Rattle.carrier_model.specs.Lists.{ListMeans, ListFault}
+use Rattle.carrier_model.specs.Tnef.{has_attr, MESSAGE_PROPS, is_form, Chosen, message_of, TnefMeans, TnefFault}
 use Rattle.carrier_model.proofs.Stream.{attrs_exact}
 use Rattle.carrier_model.proofs.Lists.{list_exact}
 
@@ -75,35 +75,3 @@ pub found_inside : (bytes : List ℕ) (l : List Attr) (p : Attr → Bool) (a : A
 found_inside bytes l p a there e =
     let len : length bytes ≡ 6 + length (flat_map spelling l) = ap length there.parts ∙ omega (arith, there.key_len, length-append there.key (flat_map spelling l)) in
     inside_found (length bytes) p l a (inside 6 (length bytes) l there.good (omega arith)) e
-
--- ---- a message of the form that is built
-
-built_from : (s : State) (l : List Integer) → AllGood props s l → All IsBuilt (map plain l)
-built_from s [] g k d lt = absurd (omega (arith, lt))
-built_from s (p ∷ l) g zero d lt = record { key = g.0.unnamed; value = (refl, g.0.fits) }
-built_from s (p ∷ l) g (suc k) d lt = built_from (props.next s p) l g.1 k d (omega arith)
-
-list_built : (at : ℕ) (bytes : List ℕ) (m : List Prop) → ListMeans at bytes m → All IsBuilt m
-list_built at bytes m h = All-permutation IsBuilt (map plain h.spelled) m h.each (built_from _ h.spelled h.good)
-
-chosen_built : (o : Option Attr) (m : List Prop) → Chosen o m → All IsBuilt m
-chosen_built None m c = rw c (λ k d lt. absurd (omega (arith, lt)))
-chosen_built (Some a) m c = list_built (a.offset + 9) a.bytes m c
-
-pub means_built : (bytes : List ℕ) (t : Message) → TnefMeans bytes t → IsBuiltMessage t
-means_built bytes t p = rw p.whole (record { alone = refl; props = chosen_built (find (has_attr MESSAGE_PROPS) p.attrs) p.props p.list })
-
-eights : (l : List Integer) → length (flat_map props.spelling l) ≡ 8 * length l
-eights [] = refl
-eights (p ∷ l) = let h = eights l in omega arith
-
-few_chosen : (o : Option Attr) (m : List Prop) (n : ℕ) → Chosen o m → ((a : Attr) → o ≡ Some a → length a.bytes ≤ n) → 8 * length m ≤ n
-few_chosen None m n c h = let e : m ≡ [] = c in omega (arith, ap length e)
-few_chosen (Some a) m n c h =
-    let list : ListMeans (a.offset + 9) a.bytes m = c in
-    let size : length a.bytes ≡ 4 + length (flat_map props.spelling list.spelled ++ list.rest) = ap length list.parts ∙ omega arith in
-    omega (arith, size, length-append (flat_map props.spelling list.spelled) list.rest, eights list.spelled, length-map list.spelled plain, length_permutation (map plain list.spelled) m list.each, h a refl)
-
--- a message has no more properties than an eighth of its bytes
-pub means_few : (bytes : List ℕ) (t : Message) → (p : TnefMeans bytes t) → 8 * length p.props ≤ length bytes
-means_few bytes t p = few_chosen (find (has_attr MESSAGE_PROPS) p.attrs) p.props (length bytes) p.list (λ a e. let i = found_inside bytes p.attrs (has_attr MESSAGE_PROPS) a p.there e in omega arith)

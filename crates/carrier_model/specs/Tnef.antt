@@ -8,7 +8,8 @@ use Rattle.carrier_model.specs.Trail.{Fault}
 use Rattle.carrier_model.specs.Bytes.{number32, le16, le32}
 use Rattle.carrier_model.specs.Attributes.{Attr, attr, spelling, SIGNATURE, Attrs, AttrsFault}
 use Rattle.carrier_model.specs.Keys.{is_id}
-use Rattle.carrier_model.specs.Values.{Prop}
+use Rattle.carrier_model.specs.Values.{Prop, prop_cmp}
+use Rattle.carrier_model.specs.Sorted.{IsStrictlySorted}
 use Rattle.carrier_model.specs.Tree.{Message, message, no_more}
 use Rattle.carrier_model.specs.Lists.{prop_spelling, bits_in, ListMeans, IsBuilt}
 
@@ -101,3 +102,4 @@ props_of (message props recipients attachments) = props
 pub record IsBuiltMessage (t : Message) : Type 0 where
   pub alone : t ≡ message_of (props_of t)
   pub props : All IsBuilt (props_of t)
+  pub sorted : IsStrictlySorted prop_cmp (props_of t)

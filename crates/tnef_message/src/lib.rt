@@ -4,6 +4,12 @@
 mod choice;
 mod list;
 mod message;
+mod plan;
+mod writing;
 
 pub use message::read_tnef;
+pub use plan::TnefPlan;
 
+
+#[cfg(test)]
+mod tests;

@@ -49,6 +49,7 @@ pub fn read_tnef<'a>(alloc: Global, bytes: &'a [u8]) -> Result<Accepted<&'a [u8]
     requires { length bytes.now ≤ 268435456 }
     ensures both { Reads message_in result (TnefMeans bytes.now) (TnefFault bytes.now) }
     ensures passed { IfOk result (λ a. a.passed ≡ []) }
+    ensures built { IfOk result (λ a. IsBuiltMessage (message_in a)) }
 {
     let attributes = Attributes::read(alloc, bytes, 0)?;
     if !is_form(attributes.as_slice()) {

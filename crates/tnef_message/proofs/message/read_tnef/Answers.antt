@@ -6,6 +6,7 @@ use Rattle.carrier_model.specs.Attributes.{Attr}
 use Rattle.carrier_model.specs.Tnef.{has_attr, MESSAGE_PROPS}
 use Rattle.carrier_model.specs.Tree.{Message}
 use Rattle.carrier_model.proofs.Tnef.{found_inside}
+use Rattle.carrier_model.proofs.Built.{means_built}
 use Rattle.tnef_attributes.specs.Views.{view}
 use Rattle.tnef_message.proofs.Reading.{attrs_failed, form_failed, list_failed, message_found}
 use Rattle.tnef_message.proofs.message.read_tnef.Goals as goal
@@ -34,3 +35,6 @@ pub returns-in-Err-Fault-clause-both : goal.returns-in-Err-Fault-clause-both
 returns-in-Err-Fault-clause-both c =
     rw c.fault-in-Err-Fault.ensures (list_failed c.args.bytes.now c.in_ok-attributes.attributes (option_map view c.first_with.result) _ c.in_ok-attributes.ensures
     (rw c.as_slice-2.ensures at c.first_with.ensures) (rw c.in-Err-Fault.field-0-is at c.in-Err-Fault.ensures.fault))
+
+pub returns-in-Ok-clause-built : goal.returns-in-Ok-clause-built
+returns-in-Ok-clause-built c = means_built c.args.bytes.now _ (returns-in-Ok-clause-both c).found
