@@ -1,11 +1,15 @@
 -- What a translation accepts and refuses, by the bytes alone.
-use Rattle.std.specs.Prelude.{◌≡◌, ◌⊎◌, ℕ, ◌<◌, ◌≤◌, ◌==◌, ◌&&◌, Bool, true, false, List, length, drop, nat_le}
+use Rattle.std.specs.Prelude.{◌≡◌, ◌⊎◌, ℕ, ◌<◌, ◌≤◌, ◌==◌, ◌&&◌, Bool, true, false, List, [], ◌∷◌, length, drop, nat_le, codes}
 use Rattle.carrier_model.specs.Reasons.{NOT_BUILT, NOT_A_CARRIER, INPUT_TOO_LONG}
 use Rattle.carrier_model.specs.Trail.{Fault}
 use Rattle.carrier_model.specs.Bytes.{number32}
 use Rattle.carrier_model.specs.Attributes.{SIGNATURE}
 use Rattle.carrier_model.specs.Tree.{Message}
 use Rattle.carrier_model.specs.Tnef.{TnefMeans, TnefFault}
+
+-- the words of the command that is built, as bytes: the one word `to-tnef`
+abbrev pub IsJob : List (List ℕ) → Type 0
+IsJob words = words ≡ codes "to-tnef" ∷ []
 
 -- the most bytes of an input
 abbrev pub LIMIT : ℕ

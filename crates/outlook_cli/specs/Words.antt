@@ -1,0 +1,6 @@
+-- The words of a command, as bytes.
+use Rattle.std.specs.Prelude.{ℕ, List, map, String, string_bytes}
+use Rattle.std.specs.declared.alloc.Global.{Global}
+
+abbrev pub texts : List (String Global) → List (List ℕ)
+texts words = map string_bytes words

@@ -1,0 +1,48 @@
+//! Translates Outlook messages between their carriers.
+#![tactic(auto)]
+
+mod report;
+mod run;
+mod status;
+mod translate;
+mod words;
+
+use carrier_io::{StdSink, StdSource};
+use run::run;
+use std::alloc::{AllocError, Global};
+use std::process::ExitCode;
+use std::{env, io};
+
+/// The words behind the program's name.
+fn words_of(alloc: Global, args: env::Args) -> Result<Vec<String>, AllocError> {
+    let mut words = Vec::new(alloc);
+    let mut is_name = true;
+    for word in args {
+        if is_name {
+            is_name = false;
+        } else {
+            words.push(word)?;
+        }
+    }
+    Ok(words)
+}
+
+fn main(rt: HostRuntime) -> ExitCode {
+    let args = match env::args(&rt) {
+        Ok(args) => args,
+        Err(e) if e.kind() == io::ErrorKind::OutOfMemory => return ExitCode::from(6),
+        Err(_) => return ExitCode::from(10),
+    };
+    let words = match words_of(rt.alloc(), args) {
+        Ok(words) => words,
+        Err(_) => return ExitCode::from(6),
+    };
+    let mut input = StdSource::new(rt.stdin());
+    let mut output = StdSink::new(rt.stdout());
+    let mut report = StdSink::new(rt.stderr());
+    let status = run(rt.alloc(), &words, &mut input, &mut output, &mut report);
+    ExitCode::from(status.code())
+}
+
+#[cfg(test)]
+mod tests;

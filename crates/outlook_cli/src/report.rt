@@ -1,0 +1,46 @@
+//! The line of the report.
+ghost use Rattle.std.specs.Prelude.{decimal};
+ghost use Rattle.carrier_io.specs.Known.{Writes};
+ghost use Rattle.outlook_cli.specs.Report.{line_of, refusal_line};
+
+use crate::status::Status;
+use carrier_io::{Failed, Fault, Sink, write_parts, write_pieces};
+
+/// Appends the digits of a number.
+fn write_decimal<W: Sink>(sink: &mut W, n: u64) -> Result<(), Failed>
+    ensures { Writes (W.held sink.old) (W.held sink.new) (W.faults sink.old) (W.faults sink.new) result (decimal n) }
+{
+    if n < 10 {
+        return write_pieces(sink, &[48 + n as u8]);
+    }
+    write_decimal(sink, n / 10)?;
+    write_pieces(sink, &[48 + (n % 10) as u8])
+}
+
+/// Appends the line of a refusal.
+fn write_refusal<W: Sink>(sink: &mut W, fault: Fault) -> Result<(), Failed>
+    ensures { Writes (W.held sink.old) (W.held sink.new) (W.faults sink.old) (W.faults sink.new) result (refusal_line fault) }
+{
+    write_pieces(sink, b"refused ")?;
+    write_decimal(sink, u64::from(fault.reason.number()))?;
+    write_parts(sink, &[b" ", fault.reason.name().as_bytes(), b" at "])?;
+    write_decimal(sink, fault.offset)?;
+    write_pieces(sink, b"\n")
+}
+
+/// Appends the line of a status.
+pub fn write_report<W: Sink>(sink: &mut W, status: Status) -> Result<(), Failed>
+    ensures { Writes (W.held sink.old) (W.held sink.new) (W.faults sink.old) (W.faults sink.new) result (line_of status) }
+{
+    match status {
+        Status::Done => Ok(()),
+        Status::Refused(fault) => write_refusal(sink, fault),
+        Status::Usage => write_pieces(
+            sink,
+            b"usage: show, check, to-msg, to-tnef, wrap, unwrap, or sample N\n",
+        ),
+        Status::ReadFault => write_pieces(sink, b"read fault\n"),
+        Status::WriteFault => write_pieces(sink, b"write fault\n"),
+        Status::NoMemory => write_pieces(sink, b"no memory\n"),
+    }
+}
