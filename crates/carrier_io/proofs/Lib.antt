@@ -1,3 +1,4 @@
 pub mod Joined
 pub mod Known
+mod Rest
 pub mod Sides

@@ -5,11 +5,11 @@ use crate::blob::Blob;
 use crate::failures::NoMemory;
 use std::alloc::Global;
 
-/// A blob's bytes in one piece.
+/// A blob's bytes in one piece. Room for them all is taken at once.
 pub fn copy_bytes<B: Blob>(alloc: Global, blob: &B) -> Result<Vec<u8>, NoMemory>
     ensures { IfOk result (λ r. r.items ≡ B.bytes blob.now) }
 {
-    let mut all = Vec::new(alloc);
+    let mut all = Vec::with_capacity(alloc, blob.len())?;
     for k in 0..blob.pieces() {
         all.extend_from_slice(blob.piece(k))?;
     }

@@ -19,7 +19,7 @@ mod walk;
 mod whole;
 
 pub use blob::Blob;
-pub use compare::{byte_at, same_bytes};
+pub use compare::same_bytes;
 pub use copy::copy_bytes;
 pub use devices::{Sink, Source};
 pub use failures::{Failed, NoMemory, PlanEnd, ReadEnd};

@@ -4,6 +4,7 @@ pub mod Canonical
 pub mod Items
 pub mod Jobs
 pub mod Lists
+pub mod Messages
 pub mod Numbers
 pub mod Orders
 pub mod Place

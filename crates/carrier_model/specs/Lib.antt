@@ -3,11 +3,13 @@ pub mod Bytes
 pub mod Items
 pub mod Jobs
 pub mod Keys
+pub mod Limits
 pub mod Lists
 pub mod Places
 pub mod Reasons
 pub mod Sorted
 pub mod Tnef
+pub mod Totals
 pub mod Trail
 pub mod Tree
 pub mod Values
