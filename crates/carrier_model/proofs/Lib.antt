@@ -1,12 +1,14 @@
 pub mod Attributes
 pub mod Built
 pub mod Canonical
+pub mod Elements
 pub mod Items
 pub mod Jobs
 pub mod Lists
 pub mod Messages
 pub mod Numbers
 pub mod Orders
+pub mod Pairs
 pub mod Place
 pub mod SortedLists
 pub mod Stream

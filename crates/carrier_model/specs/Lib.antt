@@ -2,7 +2,9 @@ pub mod Attributes
 pub mod Bytes
 pub mod Items
 pub mod Jobs
+pub mod KeyTexts
 pub mod Keys
+pub mod KindNames
 pub mod Limits
 pub mod Lists
 pub mod Places

@@ -1,10 +1,19 @@
 //! GUIDs, names and keys of properties.
 #![tactic(auto)]
 
+pub mod digits;
+pub mod key_texts;
 pub mod keys;
+pub mod labels;
 pub mod name_set;
 pub mod names;
 
+pub use digits::{upper_digits4, upper_digits8};
+pub use key_texts::{print_guid, print_key, print_unit};
 pub use keys::Key;
+pub use labels::set_label;
 pub use name_set::NameSet;
 pub use names::{Guid, Name};
+
+#[cfg(test)]
+mod tests;

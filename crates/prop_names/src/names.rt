@@ -3,8 +3,7 @@ ghost use Rattle.std.specs.Prelude.{◌≡◌, IfOk};
 ghost use Rattle.carrier_model.specs.Keys.{name_cmp, label_cmp, set_of};
 ghost use Rattle.prop_names.specs.Meaning.{name_of};
 
-use carrier_io::Units;
-use carrier_io::NoMemory;
+use carrier_io::{NoMemory, Units};
 use std::alloc::Global;
 use std::cmp::Ordering;
 

@@ -1,0 +1,81 @@
+//! The list.
+ghost use Rattle.std.specs.Prelude.{◌≡◌, ◌≤◌, ◌<◌, [], length, insert, OnOk, OnErr, slice_get, Some};
+
+use crate::block::Block;
+use crate::edits::{add, add_first};
+use crate::starts::block_with;
+use carrier_io::NoMemory;
+use std::alloc::Global;
+use std::marker::Model;
+
+/// A list. An insertion moves the places of at most a block's items.
+#[derive(Drop)]
+pub struct BlockList<T: Drop> {
+    blocks: Vec<Block<T>>,
+    starts: Vec<usize>,
+    len: usize,
+}
+
+impl<T: Drop> Model for BlockList<T> {
+    ghost use Rattle.std.specs.Prelude.{◌≡◌, List, length};
+    ghost use Rattle.block_list.specs.Blocks.{flat, starts_from};
+
+    ghost Value = { List T };
+
+    ghost view = { λ s. flat s.blocks.items };
+
+    ghost invariant = { λ s. record {
+      starts : s.starts.items ≡ starts_from 0 s.blocks.items;
+      len : s.len ≡ length (flat s.blocks.items);
+    } };
+}
+
+impl<T: Drop> BlockList<T> {
+    /// No item.
+    pub fn new(alloc: Global) -> BlockList<T>
+        ensures { result ≡ [] }
+    {
+        BlockList {
+            blocks: Vec::new(alloc),
+            starts: Vec::new(alloc),
+            len: 0,
+        }
+    }
+
+    /// How many items.
+    pub fn len(&self) -> usize
+        ensures { result ≡ length self.now }
+    {
+        self.len
+    }
+
+    /// The item at a place.
+    pub fn get(&self, k: usize) -> &T
+        requires { k < length self.now }
+        ensures { slice_get self.now k ≡ Some result.now }
+    {
+        let block = block_with(&self.starts, k);
+        self.blocks[block].get(k - self.starts[block])
+    }
+
+    /// Puts an item at a place, before the one that is there.
+    pub fn insert(&mut self, at: usize, item: T) -> Result<(), NoMemory>
+        requires { at ≤ length self.old }
+        ensures ok { OnOk result (self.new ≡ insert self.old at item) }
+        ensures err { OnErr result (self.new ≡ self.old) }
+    {
+        if self.len == usize::MAX {
+            return Err(NoMemory);
+        }
+        let alloc = *self.blocks.allocator();
+        let item = Box::new(alloc, item)?;
+        if self.starts.is_empty() {
+            add_first(alloc, &mut self.blocks, &mut self.starts, item)?;
+            self.len = 1;
+            return Ok(());
+        }
+        add(&mut self.blocks, &mut self.starts, at, item)?;
+        self.len += 1;
+        Ok(())
+    }
+}

@@ -1,0 +1,83 @@
+use crate::{Guid, Key, Name, NameSet, print_key, set_label};
+use carrier_io::{MemorySink, Units};
+use std::alloc::Global;
+use std::cmp::Ordering;
+use std::test::*;
+
+/// The set of appointments.
+const APPOINTMENT: Guid = Guid([
+    0x02, 0x20, 0x06, 0x00, 0x00, 0x00, 0x00, 0x00, 0xc0, 0x00, 0x00, 0x00, 0x00, 0x00, 0x00, 0x46,
+]);
+
+/// A set without a label.
+const OTHER: Guid = Guid([
+    0x33, 0x22, 0x11, 0x00, 0x55, 0x44, 0x77, 0x66, 0x88, 0x99, 0xaa, 0xbb, 0xcc, 0xdd, 0xee, 0xff,
+]);
+
+fn text(alloc: Global, set: Guid, units: &[u16]) -> Result<Name, Fail> {
+    let mut list = Units::new(alloc);
+    for unit in units {
+        list.push(*unit).ok().ok_or("no memory")?;
+    }
+    Ok(Name::Text { set, units: list })
+}
+
+fn printed(alloc: Global, key: &Key) -> Result<Vec<u8>, Fail> {
+    let mut sink = MemorySink::new(alloc, 200, Vec::new(alloc))
+        .ok()
+        .ok_or("no memory")?;
+    print_key(key, &mut sink).ok().ok_or("failed")?;
+    Ok(sink.bytes().to_vec(alloc)?)
+}
+
+#[test]
+fn keys_in_print(rt: HostRuntime) -> Result<(), Fail> {
+    let alloc = rt.alloc();
+    let id = printed(alloc, &Key::Id(0x0e1d))?;
+    assert_eq!(rt; id.as_slice(), "0E1D".as_bytes());
+    let number = Name::Number {
+        set: APPOINTMENT,
+        number: 0x820d,
+    };
+    let number = printed(alloc, &Key::Named(number))?;
+    assert_eq!(rt; number.as_slice(), "PSETID_Appointment/0000820D".as_bytes());
+    let quoted = text(alloc, OTHER, &[0x41, 0x22, 0x5c, 0x7e, 0x7f, 0x20ac])?;
+    let quoted = printed(alloc, &Key::Named(quoted))?;
+    assert_eq!(rt;
+        quoted.as_slice(),
+        "{00112233-4455-6677-8899-aabbccddeeff}/\"A\\0022\\005C~\\007F\\20AC\"".as_bytes()
+    );
+    Ok(())
+}
+
+#[test]
+fn labels(rt: HostRuntime) -> Result<(), Fail> {
+    assert_eq!(rt; set_label(&APPOINTMENT), Some("PSETID_Appointment"));
+    assert_eq!(rt; set_label(&OTHER), None);
+    Ok(())
+}
+
+#[test]
+fn names_in_order(rt: HostRuntime) -> Result<(), Fail> {
+    let number = Name::Number {
+        set: APPOINTMENT,
+        number: 0x820d,
+    };
+    let mut units = Units::new(rt.alloc());
+    units.push(0x41).ok().ok_or("no memory")?;
+    let word = Name::Text {
+        set: APPOINTMENT,
+        units,
+    };
+    assert_eq!(rt; number.order(&word), Ordering::Less);
+    let mut set = NameSet::new(rt.alloc());
+    set.insert(&word).ok().ok_or("no memory")?;
+    set.insert(&number).ok().ok_or("no memory")?;
+    set.insert(&word).ok().ok_or("no memory")?;
+    assert_eq!(rt; set.len(), 2);
+    assert_eq!(rt; set.position(&number), Some(0));
+    assert_eq!(rt; set.position(&word), Some(1));
+    let copy = word.copy(rt.alloc()).ok().ok_or("no memory")?;
+    assert_eq!(rt; Key::Named(copy).order(&Key::Named(word)), Ordering::Equal);
+    Ok(())
+}
