@@ -1,0 +1,4 @@
+pub mod ClaimLaws
+pub mod ListLaws
+pub mod LoadLaws
+pub mod StreamLaws

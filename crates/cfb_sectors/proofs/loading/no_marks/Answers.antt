@@ -1,0 +1,7 @@
+use Rattle.std.proofs.Common.{◌≡◌, ℕ, ◌∙◌, ap, arith, false, replicate}
+use Rattle.carrier_model.specs.Marks.{unmarked}
+use Rattle.carrier_model.proofs.MarkLaws.{unmarked-replicate}
+use Rattle.cfb_sectors.proofs.loading.no_marks.Goals as goal
+
+pub returns-clause-unmarked : goal.returns-clause-unmarked
+returns-clause-unmarked c = rw c.in_ok-new.ensures (unmarked-replicate c.args.count)

@@ -1,0 +1,68 @@
+//! Directory entries.
+ghost use Rattle.std.specs.Prelude.{◌≡◌, ◌+◌, ◌*◌, ◌<◌, ◌≤◌, ℕ, length, map, All, IsTrue};
+ghost use Rattle.std.specs.List.{range_with_len};
+ghost use Rattle.carrier_model.specs.Sectors.{is_size, u16_of, whole_count};
+ghost use Rattle.carrier_model.specs.Entries.{entry_at, entry_count, entry_place};
+ghost use Rattle.cfb_sectors.specs.Views.{entry};
+
+use crate::header::{long, short};
+
+/// A directory entry, with the fields as the file has them.
+#[derive(Clone, Copy)]
+pub struct Entry {
+    /// 0 free, 1 storage, 2 stream, 5 root.
+    pub kind: u8,
+    pub units: [u16; 32],
+    /// The name's length in bytes, with its null.
+    pub name_bytes: u16,
+    pub left: u32,
+    pub right: u32,
+    pub child: u32,
+    pub start: u32,
+    /// In bytes.
+    pub size: u32,
+}
+
+/// The units of a name's field.
+fn read_units(bytes: &[u8], at: usize) -> [u16; 32]
+    requires { at + 64 ≤ length bytes.now }
+    ensures { result ≡ map (λ k. u16_of bytes.now (at + 2 * k)) (range_with_len 0 32) }
+{
+    let mut units = [0; 32];
+    for i in 0..32 {
+        units[i] = short(bytes, at + 2 * i);
+    }
+    units
+}
+
+/// The entry whose first byte is at a place.
+pub fn read_entry(bytes: &[u8], at: usize) -> Entry
+    requires { at + 128 ≤ length bytes.now }
+    ensures { entry result ≡ entry_at bytes.now at }
+{
+    Entry {
+        kind: bytes[at + 66],
+        units: read_units(bytes, at),
+        name_bytes: short(bytes, at + 64),
+        left: long(bytes, at + 68),
+        right: long(bytes, at + 72),
+        child: long(bytes, at + 76),
+        start: long(bytes, at + 116),
+        size: long(bytes, at + 120),
+    }
+}
+
+/// Where the first byte of an entry lies, for a directory of these sectors, which are whole.
+pub fn entry_place(bytes: &[u8], size: u32, directory: &[u32], id: u32) -> usize
+    requires size { IsTrue (is_size size) }
+    requires short { length bytes.now ≤ 268435456 }
+    requires whole { All (λ n. n < whole_count size bytes.now) directory.now }
+    requires there { id < entry_count size directory.now }
+    ensures place { result ≡ entry_place size directory.now id }
+    ensures inside { result + 128 ≤ length bytes.now }
+{
+    let size = size as usize;
+    let at = 128 * id as usize;
+    let sector = directory[at / size] as usize;
+    (sector + 1) * size + at % size
+}

@@ -1,0 +1,165 @@
+//! A compound file whose tables are read.
+ghost use Rattle.std.specs.Prelude.{◌≡◌, ℕ, ◌+◌, ◌≤◌, ◌<◌, ◌++◌, List, [], length, IfOk, Ok};
+ghost use Rattle.carrier_model.specs.Loads.{load_of, taken_by, mini_bound, long_part, short_part};
+ghost use Rattle.carrier_model.specs.Marks.{Marks, unmarked};
+ghost use Rattle.carrier_model.specs.Sectors.{sector_count};
+ghost use Rattle.carrier_io.specs.Reads.{Gives};
+ghost use Rattle.carrier_io.specs.Steps.{stepped};
+ghost use Rattle.cfb_sectors.specs.States.{State, IsKept, entries, entry_of, place_of, chain_claimed, stream_claimed};
+ghost use Rattle.cfb_sectors.specs.Seen.{stream};
+ghost use Rattle.cfb_sectors.specs.Views.{table, mini_seen, entry};
+
+use crate::claims::{view_long, view_short};
+use crate::entry::{Entry, entry_place, read_entry};
+use crate::fat::Fat;
+use crate::header::{SECTOR, fault};
+use crate::loading::{Tables, load_tables, no_marks};
+use crate::marks::SectorMarks;
+use crate::mini::load_mini;
+use crate::streams::{Mini, Wish};
+use crate::view::StreamView;
+use carrier_io::{Reason, Stop, Walk};
+use std::alloc::Global;
+use std::marker::Model;
+
+/// A stream of so many bytes has a chain in the table, a shorter one in the mini FAT.
+const LONG: u32 = 4096;
+
+/// A compound file whose header, tables and directory chain are read, with marks of the sectors that are taken.
+#[derive(Drop)]
+pub struct Sectors<'a> {
+    bytes: &'a [u8],
+    difat: Vec<u32>,
+    fat: Fat,
+    directory: Vec<u32>,
+    mini: Mini,
+    marks: SectorMarks,
+    mini_marks: SectorMarks,
+}
+
+impl<'a> Model for Sectors<'a> {
+    ghost Value = { State };
+
+    ghost view = { λ s. record { file = s.bytes.now; size = s.fat.size; loaded = record { difat = s.difat.items; table = table s.fat; directory = s.directory.items; mini = mini_seen s.mini }; marks = s.marks; mini_marks = s.mini_marks } };
+
+    ghost invariant = { λ s. IsKept (record { file = s.bytes.now; size = s.fat.size; loaded = record { difat = s.difat.items; table = table s.fat; directory = s.directory.items; mini = mini_seen s.mini }; marks = s.marks; mini_marks = s.mini_marks }) × (s.mini.fat.size ≡ s.fat.size) };
+}
+
+impl<'a> Sectors<'a> {
+    /// Reads the header, the tables, the directory's chain and the mini stream's chain. The first fault of these, at the
+    /// field or word that names what is wrong.
+    #[tactic(auto, unfolding(carrier_model::specs::Loads::load_of))]
+    pub fn load(alloc: Global, bytes: &'a [u8], walk: &mut Walk) -> Result<Sectors<'a>, Stop>
+        requires short { length bytes.now ≤ 268435456 }
+        ensures answer { Gives (λ s. s.loaded) result (load_of 512 bytes.now) }
+        ensures file { IfOk result (λ s. (s.file ≡ bytes.now) × (s.size ≡ 512)) }
+        ensures marks { IfOk result (λ s. Marks s.marks (taken_by s.loaded)) }
+        ensures mini_marks { IfOk result (λ s. Marks s.mini_marks []) }
+        ensures steps { IfOk result (λ s. walk.new ≡ stepped walk.old (length s.loaded.directory + length s.loaded.mini.table.sectors + length s.loaded.mini.stream)) }
+        ensures left { IfOk result (λ s. walk.new + unmarked s.marks ≤ walk.old + sector_count 512 bytes.now) }
+        ensures left_mini { IfOk result (λ s. unmarked s.mini_marks ≡ mini_bound s.loaded.mini) }
+        ensures bounded { walk.new ≤ walk.old + sector_count 512 bytes.now }
+    {
+        let Tables {
+            header,
+            difat,
+            fat,
+            directory,
+            mut marks,
+        } = load_tables(alloc, bytes, walk)?;
+        let place = entry_place(bytes, 512, &directory, 0);
+        let root = read_entry(bytes, place);
+        if root.kind != 5 {
+            return Err(fault(Reason::BadEntryType, place as u64 + 66));
+        }
+        let wish = Wish {
+            start: root.start,
+            size: root.size,
+            entry: place as u64,
+        };
+        let mini = load_mini(alloc, bytes, &fat, header.mini_fat, wish, &mut marks, walk)?;
+        let count = (mini.size.div_ceil(64) as usize).min(mini.fat.words.len());
+        let mini_marks = no_marks(alloc, count)?;
+        Ok(Sectors {
+            bytes,
+            difat,
+            fat,
+            directory,
+            mini,
+            marks,
+            mini_marks,
+        })
+    }
+
+    /// How many entries the directory has.
+    pub fn entries(&self) -> u32
+        ensures { result ≡ entries self.now }
+    {
+        self.fat.size / 128 * self.directory.len() as u32
+    }
+
+    /// An entry of the directory.
+    pub fn entry(&self, id: u32) -> Entry
+        requires { id < entries self.now }
+        ensures { entry result ≡ entry_of self.now id }
+    {
+        read_entry(self.bytes, entry_place(self.bytes, self.fat.size, &self.directory, id))
+    }
+
+    /// The file offset of an entry's first byte.
+    pub fn entry_offset(&self, id: u32) -> u64
+        requires { id < entries self.now }
+        ensures { result ≡ place_of self.now id }
+    {
+        entry_place(self.bytes, self.fat.size, &self.directory, id) as u64
+    }
+
+    /// The table.
+    pub fn table(&self) -> &Fat
+        ensures table { table result.now ≡ self.now.loaded.table }
+        ensures size { result.now.size ≡ self.now.size }
+    {
+        &self.fat
+    }
+
+    /// The mini FAT, which has no words where the mini stream is empty.
+    pub fn mini_table(&self) -> &Fat
+        ensures table { table result.now ≡ self.now.loaded.mini.table }
+        ensures size { result.now.size ≡ self.now.size }
+    {
+        &self.mini.fat
+    }
+
+    /// The stream of an entry, whose sectors are marked. An empty stream takes none. SectorOutOfRange, Cycle, Shared or
+    /// ShortChain at the field or word that names what may not follow; FileTruncated at the entry's size. After a fault
+    /// some sectors stay marked.
+    #[tactic(auto, unfolding(carrier_model::specs::Loads::claim_of))]
+    pub fn claim(
+        &mut self,
+        alloc: Global,
+        id: u32,
+        walk: &mut Walk,
+    ) -> Result<StreamView<'a>, Stop>
+        requires { id < entries self.old }
+        ensures answer { (long short : List ℕ) → Marks self.old.marks long → Marks self.old.mini_marks short → Gives stream result (stream_claimed self.old id long short) }
+        ensures marked { (long short chain : List ℕ) → Marks self.old.marks long → Marks self.old.mini_marks short → chain_claimed self.old id long short ≡ Ok chain → IfOk result (λ _. Marks self.new.marks (long ++ long_part (entry_of self.old id) chain) × Marks self.new.mini_marks (short ++ short_part (entry_of self.old id) chain)) }
+        ensures steps { (long short chain : List ℕ) → Marks self.old.marks long → Marks self.old.mini_marks short → chain_claimed self.old id long short ≡ Ok chain → IfOk result (λ _. walk.new ≡ stepped walk.old (length chain)) }
+        ensures same { self.new ≡ record self.old { marks = self.new.marks; mini_marks = self.new.mini_marks } }
+        ensures bounded { walk.new + unmarked self.new.marks + unmarked self.new.mini_marks ≤ walk.old + unmarked self.old.marks + unmarked self.old.mini_marks }
+    {
+        let place = entry_place(self.bytes, self.fat.size, &self.directory, id);
+        let entry = read_entry(self.bytes, place);
+        let wish = Wish {
+            start: entry.start,
+            size: entry.size,
+            entry: place as u64,
+        };
+        if entry.size == 0 {
+            Ok(StreamView::empty(alloc))
+        } else if entry.size >= LONG {
+            view_long(alloc, self.bytes, &self.fat, wish, &mut self.marks, walk)
+        } else {
+            view_short(alloc, self.bytes, &self.mini, wish, &mut self.mini_marks, walk)
+        }
+    }
+}

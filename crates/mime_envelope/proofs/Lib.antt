@@ -1,0 +1,7 @@
+pub mod Characters
+pub mod Coded
+pub mod Cuts
+pub mod Quoted
+pub mod Readings
+pub mod Searches
+pub mod Texts

@@ -1,0 +1,19 @@
+//! The mail envelope of a TNEF stream, both ways.
+#![tactic(auto)]
+
+mod coder;
+mod header;
+mod marks;
+mod parameters;
+mod part;
+mod parts;
+mod reading;
+mod search;
+mod text;
+mod writing;
+
+pub use reading::payload;
+pub use writing::{envelope_size, write_envelope};
+
+#[cfg(test)]
+mod tests;

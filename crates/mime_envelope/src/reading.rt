@@ -1,0 +1,111 @@
+//! Reading an envelope.
+ghost use Rattle.std.specs.Prelude.{◌≡◌, ℕ, ◌+◌, ◌<◌, ◌^◌, List, length, not, filter, IfOk};
+ghost use Rattle.carrier_io.specs.Reads.{Gives, Reads};
+ghost use Rattle.carrier_io.specs.Reasons.{refusal};
+ghost use Rattle.carrier_model.specs.Envelope as envelope;
+ghost use Rattle.mime_envelope.specs.Parts.{part_view};
+
+use crate::coder::Coder;
+use crate::part::Part;
+use crate::search::search;
+use crate::text::is_word;
+use carrier_io::{Fault, NoMemory, Reason, Stop};
+use std::alloc::Global;
+
+/// How many multiparts may stand inside each other.
+const MOST_MULTIPARTS: u8 = 16;
+
+/// The bytes that the first TNEF part of an envelope carries (RFC 2045, RFC 2046), or the envelope's first fault.
+pub fn payload(alloc: Global, bytes: &[u8]) -> Result<Vec<u8>, Stop>
+    ensures { Reads (λ v. v.items) result (envelope.Envelope bytes.now) (envelope.EnvelopeFault bytes.now) }
+{
+    let (end, text) = coded_text(alloc, bytes)?;
+    match Coder::new().decode(alloc, &text)? {
+        Some(payload) => Ok(payload),
+        None => Err(Stop::Fault(Fault {
+            reason: Reason::BadPadding,
+            offset: end,
+        })),
+    }
+}
+
+/// The base64 text of the first TNEF part, and the offset of its body's end.
+fn coded_text(alloc: Global, bytes: &[u8]) -> Result<(u64, Vec<u8>), Stop>
+    ensures { Gives (λ t. (t.0, t.1.items)) result (envelope.envelope_text bytes.now) }
+{
+    let Some(part) = search(alloc, MOST_MULTIPARTS, 0, bytes)? else {
+        return Err(Stop::Fault(Fault {
+            reason: Reason::NoTnefPart,
+            offset: 0,
+        }));
+    };
+    test_encoding(&part)?;
+    test_characters(part.place, part.body)?;
+    let text = characters(alloc, part.body)?;
+    Ok((part.place + part.body.len() as u64, text))
+}
+
+/// Whether a part's body is base64.
+fn test_encoding(part: &Part) -> Result<(), Fault>
+    ensures { envelope.bad_encoding (part_view part.now) ≡ refusal result }
+{
+    match &part.encoding {
+        None => Err(Fault {
+            reason: Reason::NotBase64,
+            offset: part.place,
+        }),
+        Some(field) => {
+            if is_word(b"base64", &field.value) {
+                Ok(())
+            } else {
+                Err(Fault {
+                    reason: Reason::NotBase64,
+                    offset: field.at,
+                })
+            }
+        }
+    }
+}
+
+/// Whether it is a space, a tab or of a line's end.
+fn is_skipped(byte: u8) -> bool
+    ensures { result ≡ envelope.is_skipped byte }
+{
+    byte == b' ' || byte == b'\t' || byte == b'\r' || byte == b'\n'
+}
+
+/// Whether it may stand in base64 text.
+fn is_character(byte: u8) -> bool
+    ensures { result ≡ envelope.is_character byte }
+{
+    matches!(byte, b'A'..=b'Z' | b'a'..=b'z' | b'0'..=b'9' | b'+' | b'/' | b'=')
+}
+
+/// Whether all bytes of a body at an offset are base64 characters or skipped.
+fn test_characters(at: u64, body: &[u8]) -> Result<(), Fault>
+    requires { at + length body.now < 2 ^ 64 }
+    ensures { envelope.bad_character at body.now ≡ refusal result }
+{
+    for (i, byte) in body.iter().enumerate() {
+        if !is_skipped(*byte) && !is_character(*byte) {
+            return Err(Fault {
+                reason: Reason::BadBase64,
+                offset: at + i as u64,
+            });
+        }
+    }
+    Ok(())
+}
+
+/// A body without what is skipped.
+fn characters(alloc: Global, body: &[u8]) -> Result<Vec<u8>, NoMemory>
+    ensures { IfOk result (λ v. v.items ≡ envelope.characters body.now) }
+{
+    let mut text = Vec::new(alloc);
+    for byte in body {
+        if !is_skipped(*byte) {
+            text.push(*byte)?;
+        }
+    }
+    Ok(text)
+}
