@@ -1,32 +1,45 @@
 use crate::run::run;
 use crate::status::Status;
-use carrier_io::{Fault, MemorySink, MemorySource, ReadEnd, Reason, read_all};
+use carrier_io::{Fault, MemorySink, MemorySource, Reason};
 use std::test::*;
 
-const ROW_1: [u8; 63] = [
+/// A stream with the code page 1252 and one property, id 0017 and value 2.
+const ONE_PROPERTY: [u8; 63] = [
     0x78, 0x9f, 0x3e, 0x22, 0x01, 0x00, 0x01, 0x06, 0x90, 0x08, 0x00, 0x04, 0x00, 0x00, 0x00, 0x00,
     0x00, 0x01, 0x00, 0x01, 0x00, 0x01, 0x07, 0x90, 0x06, 0x00, 0x08, 0x00, 0x00, 0x00, 0xe4, 0x04,
     0x00, 0x00, 0x00, 0x00, 0x00, 0x00, 0xe8, 0x00, 0x01, 0x03, 0x90, 0x06, 0x00, 0x0c, 0x00, 0x00,
     0x00, 0x01, 0x00, 0x00, 0x00, 0x03, 0x00, 0x17, 0x00, 0x02, 0x00, 0x00, 0x00, 0x1d, 0x00,
 ];
 
-const EMPTY_LIST: [u8; 15] = [
+/// The attribute of a list without properties.
+const NO_PROPERTIES: [u8; 15] = [
     0x01, 0x03, 0x90, 0x06, 0x00, 0x04, 0x00, 0x00, 0x00, 0x00, 0x00, 0x00, 0x00, 0x00, 0x00,
 ];
+
+/// How a run ended, what it wrote and what it reported.
+struct Outcome {
+    status: Status,
+    output: Vec<u8>,
+    report: Vec<u8>,
+}
 
 fn refused(reason: Reason, offset: u64) -> Status {
     Status::Refused(Fault { reason, offset })
 }
 
-/// Runs `to-tnef` over the input, and gives the status and what was written.
-fn translated(
+/// Runs the words over an input, with devices that fail at the calls of these numbers.
+fn outcome(
     rt: &HostRuntime,
+    words: &[&str],
     input: &[u8],
     failing_reads: &[u64],
     failing_writes: &[u64],
-) -> Result<(Status, Vec<u8>), Fail> {
+) -> Result<Outcome, Fail> {
     let alloc = rt.alloc();
-    let words = vec![in alloc; String::from_str(alloc, "to-tnef")?]?;
+    let mut list = Vec::new(alloc);
+    for word in words {
+        list.push(String::from_str(alloc, word)?)?;
+    }
     let mut source = MemorySource::new(input.to_vec(alloc)?, failing_reads.to_vec(alloc)?);
     let mut sink = MemorySink::new(alloc, 1000, failing_writes.to_vec(alloc)?)
         .ok()
@@ -34,56 +47,86 @@ fn translated(
     let mut report = MemorySink::new(alloc, 1000, Vec::new(alloc))
         .ok()
         .ok_or("memory")?;
-    let status = run(alloc, &words, &mut source, &mut sink, &mut report);
-    Ok((status, sink.bytes().to_vec(alloc)?))
+    let status = run(alloc, &list, &mut source, &mut sink, &mut report);
+    Ok(Outcome {
+        status,
+        output: sink.bytes().to_vec(alloc)?,
+        report: report.bytes().to_vec(alloc)?,
+    })
 }
 
 #[test]
-fn rows(rt: HostRuntime) -> Result<(), Fail> {
-    let mut changed = ROW_1;
-    changed[61] = 0x1e;
+fn streams_are_translated_or_refused(rt: HostRuntime) -> Result<(), Fail> {
+    let alloc = rt.alloc();
+    let empty = [0x78, 0x9f, 0x3e, 0x22, 0x00, 0x00];
+    let mut without = ONE_PROPERTY[..40].to_vec(alloc)?;
+    without.extend_from_slice(&NO_PROPERTIES)?;
+    let mut other_sum = ONE_PROPERTY;
+    other_sum[61] = 0x1e;
+    let compound = [0xd0, 0xcf, 0x11, 0xe0, 0xa1, 0xb1, 0x1a, 0xe1];
     let table = [
-        (&ROW_1[..], Status::Done, &ROW_1[..]),
-        (&[][..], refused(Reason::NotACarrier, 0), &[][..]),
-        (&changed[..], refused(Reason::BadSum, 61), &[][..]),
-        (&ROW_1[..62], refused(Reason::Truncated, 61), &[][..]),
+        (&ONE_PROPERTY[..], Status::Done, &ONE_PROPERTY[..], &b""[..]),
+        (&empty[..], Status::Done, &without[..], &b""[..]),
+        (
+            &[][..],
+            refused(Reason::NotACarrier, 0),
+            &[][..],
+            &b"refused 1 NotACarrier at 0\n"[..],
+        ),
+        (
+            &other_sum[..],
+            refused(Reason::BadSum, 61),
+            &[][..],
+            &b"refused 63 BadSum at 61\n"[..],
+        ),
+        (
+            &ONE_PROPERTY[..62],
+            refused(Reason::Truncated, 61),
+            &[][..],
+            &b"refused 62 Truncated at 61\n"[..],
+        ),
+        (
+            &compound[..],
+            refused(Reason::NotBuilt, 0),
+            &[][..],
+            &b"refused 2 NotBuilt at 0\n"[..],
+        ),
     ];
-    for (input, status, output) in table {
-        let (got, bytes) = translated(&rt, input, &[], &[])?;
-        assert_eq!(rt; got, status);
-        assert_eq!(rt; bytes.as_slice(), output);
+    for (input, status, output, report) in table {
+        let got = outcome(&rt, &["to-tnef"], input, &[], &[])?;
+        assert_eq!(rt; got.status, status);
+        assert_eq!(rt; got.output.as_slice(), output);
+        assert_eq!(rt; got.report.as_slice(), report);
     }
     Ok(())
 }
 
 #[test]
-fn no_properties(rt: HostRuntime) -> Result<(), Fail> {
-    let (status, bytes) = translated(&rt, &[0x78, 0x9f, 0x3e, 0x22, 0, 0], &[], &[])?;
-    assert_eq!(rt; status, Status::Done);
-    let mut want = ROW_1[..40].to_vec(rt.alloc())?;
-    want.extend_from_slice(&EMPTY_LIST)?;
-    assert_eq!(rt; bytes.as_slice(), want.as_slice());
+fn other_words_are_usage(rt: HostRuntime) -> Result<(), Fail> {
+    let table = [&["to-msg", "x"][..], &[][..], &["sample", "007"][..]];
+    for words in table {
+        let got = outcome(&rt, words, &ONE_PROPERTY, &[0], &[])?;
+        assert_eq!(rt; got.status, Status::Usage);
+        assert_eq!(rt; got.status.code(), 2);
+        assert_eq!(rt; got.output.len(), 0);
+        assert_eq!(
+            rt;
+            got.report.as_slice(),
+            &b"usage: show, check, to-msg, to-tnef, wrap, unwrap, or sample N\n"[..]
+        );
+    }
     Ok(())
 }
 
 #[test]
-fn failing_devices(rt: HostRuntime) -> Result<(), Fail> {
-    let (status, bytes) = translated(&rt, &ROW_1, &[0], &[])?;
-    assert_eq!(rt; status, Status::ReadFault);
-    assert_eq!(rt; bytes.len(), 0);
-    let (status, bytes) = translated(&rt, &ROW_1, &[], &[0])?;
-    assert_eq!(rt; status, Status::WriteFault);
-    assert_eq!(rt; bytes.len(), 0);
-    Ok(())
-}
-
-#[test]
-fn limits(rt: HostRuntime) -> Result<(), Fail> {
-    let alloc = rt.alloc();
-    let mut five = MemorySource::new([1, 2, 3, 4, 5].to_vec(alloc)?, Vec::new(alloc));
-    assert!(rt; matches!(read_all(alloc, &mut five, 4), Err(ReadEnd::TooLong)));
-    let mut four = MemorySource::new([1, 2, 3, 4].to_vec(alloc)?, Vec::new(alloc));
-    let bytes = read_all(alloc, &mut four, 4).ok().ok_or("four bytes")?;
-    assert_eq!(rt; bytes.as_slice(), [1, 2, 3, 4].as_slice());
+fn devices_that_fail(rt: HostRuntime) -> Result<(), Fail> {
+    let got = outcome(&rt, &["to-tnef"], &ONE_PROPERTY, &[0], &[])?;
+    assert_eq!(rt; got.status, Status::ReadFault);
+    assert_eq!(rt; got.output.len(), 0);
+    assert_eq!(rt; got.report.as_slice(), &b"read fault\n"[..]);
+    let got = outcome(&rt, &["to-tnef"], &ONE_PROPERTY, &[], &[0])?;
+    assert_eq!(rt; got.status, Status::WriteFault);
+    assert_eq!(rt; got.output.len(), 0);
+    assert_eq!(rt; got.report.as_slice(), &b"write fault\n"[..]);
     Ok(())
 }
