@@ -118,6 +118,13 @@ impl MemorySink {
     {
         &self.bytes
     }
+
+    /// What it held, to keep.
+    pub fn into_bytes(self) -> Vec<u8>
+        ensures { sink_held self ≡ Some result.items }
+    {
+        self.bytes
+    }
 }
 
 impl Sink for MemorySink {

@@ -17,6 +17,7 @@ const NO_PROPERTIES: [u8; 15] = [
 ];
 
 /// How a run ended, what it wrote and what it reported.
+#[derive(Drop)]
 struct Outcome {
     status: Status,
     output: Vec<u8>,
