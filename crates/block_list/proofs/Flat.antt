@@ -183,3 +183,9 @@ insert-nothing (suc at) x = refl
 pub on-err : {T E P : Type 0} (r : Result T E) → P → OnErr r P
 on-err (Ok x) p = tt
 on-err (Err e) p = p
+
+pub insert-last : {A : Type 0} (xs : List A) (at : ℕ) (x : A) → at ≡ length xs → insert xs at x ≡ xs ++ x ∷ []
+insert-last [] zero x e = refl
+insert-last [] (suc at) x e = absurd (omega arith)
+insert-last (y ∷ ys) zero x e = absurd (omega arith)
+insert-last (y ∷ ys) (suc at) x e = ap (λ l. y ∷ l) (insert-last ys at x (omega arith))

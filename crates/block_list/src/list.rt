@@ -1,5 +1,5 @@
 //! The list.
-ghost use Rattle.std.specs.Prelude.{◌≡◌, ◌≤◌, ◌<◌, [], length, insert, OnOk, OnErr, slice_get, Some};
+ghost use Rattle.std.specs.Prelude.{◌≡◌, ◌≤◌, ◌<◌, ◌++◌, [], ◌∷◌, length, insert, OnOk, OnErr, slice_get, Some};
 
 use crate::block::Block;
 use crate::edits::{add, add_first};
@@ -77,5 +77,13 @@ impl<T: Drop> BlockList<T> {
         add(&mut self.blocks, &mut self.starts, at, item)?;
         self.len += 1;
         Ok(())
+    }
+
+    /// Puts an item behind all others.
+    pub fn push(&mut self, item: T) -> Result<(), NoMemory>
+        ensures ok { OnOk result (self.new ≡ self.old ++ item ∷ []) }
+        ensures err { OnErr result (self.new ≡ self.old) }
+    {
+        self.insert(self.len(), item)
     }
 }

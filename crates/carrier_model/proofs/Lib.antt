@@ -8,6 +8,7 @@ pub mod Elements
 pub mod Entities
 pub mod EntryLaws
 pub mod EnvelopeText
+pub mod Ids
 pub mod Items
 pub mod Jobs
 pub mod Lines

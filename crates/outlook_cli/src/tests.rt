@@ -29,7 +29,7 @@ fn refused(reason: Reason, offset: u64) -> Status {
 }
 
 /// Runs the words over an input, with devices that fail at the calls of these numbers.
-fn outcome(
+fn run_over(
     rt: &HostRuntime,
     words: &[&str],
     input: &[u8],
@@ -94,7 +94,7 @@ fn streams_are_translated_or_refused(rt: HostRuntime) -> Result<(), Fail> {
         ),
     ];
     for (input, status, output, report) in table {
-        let got = outcome(&rt, &["to-tnef"], input, &[], &[])?;
+        let got = run_over(&rt, &["to-tnef"], input, &[], &[])?;
         assert_eq!(rt; got.status, status);
         assert_eq!(rt; got.output.as_slice(), output);
         assert_eq!(rt; got.report.as_slice(), report);
@@ -106,7 +106,7 @@ fn streams_are_translated_or_refused(rt: HostRuntime) -> Result<(), Fail> {
 fn other_words_are_usage(rt: HostRuntime) -> Result<(), Fail> {
     let table = [&["to-msg", "x"][..], &[][..], &["sample", "007"][..]];
     for words in table {
-        let got = outcome(&rt, words, &ONE_PROPERTY, &[0], &[])?;
+        let got = run_over(&rt, words, &ONE_PROPERTY, &[0], &[])?;
         assert_eq!(rt; got.status, Status::Usage);
         assert_eq!(rt; got.status.code(), 2);
         assert_eq!(rt; got.output.len(), 0);
@@ -121,11 +121,11 @@ fn other_words_are_usage(rt: HostRuntime) -> Result<(), Fail> {
 
 #[test]
 fn devices_that_fail(rt: HostRuntime) -> Result<(), Fail> {
-    let got = outcome(&rt, &["to-tnef"], &ONE_PROPERTY, &[0], &[])?;
+    let got = run_over(&rt, &["to-tnef"], &ONE_PROPERTY, &[0], &[])?;
     assert_eq!(rt; got.status, Status::ReadFault);
     assert_eq!(rt; got.output.len(), 0);
     assert_eq!(rt; got.report.as_slice(), &b"read fault\n"[..]);
-    let got = outcome(&rt, &["to-tnef"], &ONE_PROPERTY, &[], &[0])?;
+    let got = run_over(&rt, &["to-tnef"], &ONE_PROPERTY, &[], &[0])?;
     assert_eq!(rt; got.status, Status::WriteFault);
     assert_eq!(rt; got.output.len(), 0);
     assert_eq!(rt; got.report.as_slice(), &b"write fault\n"[..]);
