@@ -68,11 +68,10 @@ all_good place seen [] h s b = tt
 all_good place seen (p ∷ l) h s b =
     let here : IsBuilt (plain p) = h 0 (plain p) (omega arith) in
     let next : Below (map plain (seen ++ p ∷ [])) (map plain l) = λ y z c d.
-        elim (in_push (map plain seen) (plain p) y (subst (λ (w : List Prop). Contains w y) (map-append plain seen (p ∷ [])) c)) [
-          | inl e ↦ b y z e (in_tail (plain p) z (map plain l) d)
-          | inr e ↦ subst (λ (w : Prop). prop_cmp w z ≡ Less) e (head_less prop_total (plain p) (map plain l) z s d)
-        ] in
-    (
+    elim (in_push (map plain seen) (plain p) y (subst (λ (w : List Prop). Contains w y) (map-append plain seen (p ∷ [])) c)) [
+      | inl e ↦ b y z e (in_tail (plain p) z (map plain l) d)
+      | inr e ↦ subst (λ (w : Prop). prop_cmp w z ≡ Less) e (head_less prop_total (plain p) (map plain l) z s d)
+    ] in (
       record { unnamed = here.key; fits = here.value.1; fresh = fresh seen p (λ y c. b y (plain p) c (in_head (plain p) (map plain l))) },
       all_good (place + 8) (seen ++ p ∷ []) l (tail_built (plain p) (map plain l) h) (tail_sorted prop_total (plain p) (map plain l) s) next,
     )

@@ -86,7 +86,6 @@ prop_begins s id value bytes rest fits e is_id is_value is_rest =
     } in
     rw (is_id, is_value, is_rest) whole
 
-
 -- ---- pairs of key and kind
 
 same_pair : (a b x y : ℕ) → prop_cmp (plain (integer a x)) (plain (integer b y)) ≡ Equal → a ≡ b

@@ -103,7 +103,6 @@ visit_whole d link seen other =
     ∙ (cond-false (eqb link.target no_link) (Ok leaf) (body (visit d.count d) d link seen) (ne_eqb link.target no_link other)
     ∙ body_same (visit d.count d) (visit (suc d.count) d) d link seen (λ l s fewer. sym (fuel_more d.count d l s (omega (arith, unseen-le d.count seen)))))
 
-
 bind_ok : {A B : Type 0} (r : Result A Fault) (f : A → Result B Fault) (y : B) → (r >>= f) ≡ Ok y → (x : A) × (r ≡ Ok x) × (f x ≡ Ok y)
 bind_ok (Ok x) f y h = (x, refl, h)
 bind_ok (Err e) f y h = absurd (cc)

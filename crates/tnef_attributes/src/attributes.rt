@@ -1,9 +1,8 @@
 //! Attributes as they lie in a stream.
+use crate::reading::attributes_of;
 use carrier_io::{Fault, NoMemory, Reason, Stop, u32_at};
 use std::alloc::Global;
 use std::marker::Model;
-
-use crate::reading::attributes_of;
 
 /// An attribute of a TNEF stream (MS-OXTNEF).
 #[derive(Clone, Copy, Debug)]

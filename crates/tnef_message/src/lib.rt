@@ -10,6 +10,5 @@ mod writing;
 pub use message::read_tnef;
 pub use plan::TnefPlan;
 
-
 #[cfg(test)]
 mod tests;

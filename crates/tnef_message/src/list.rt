@@ -76,7 +76,12 @@ fn enter<'a>(bytes: &'a [u8], at: u64, props: &mut Props<&'a [u8]>) -> Result<&'
 }
 
 /// So many properties from the front.
-fn props_of<'a>(alloc: Global, count: u32, bytes: &'a [u8], at: u64) -> Result<Props<&'a [u8]>, Stop>
+fn props_of<'a>(
+    alloc: Global,
+    count: u32,
+    bytes: &'a [u8],
+    at: u64,
+) -> Result<Props<&'a [u8]>, Stop>
     requires { at + length bytes.now ≤ 268435456 }
     ensures found { IfOk result (λ m. PropsMean at count bytes.now m) }
     ensures fault { IfErr result (OnFault (PropFault at count bytes.now)) }
