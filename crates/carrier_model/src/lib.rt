@@ -2,10 +2,10 @@
 //! a law about them and does nothing.
 #![tactic(auto)]
 
-mod chain_laws;
+mod file_laws;
 mod laws;
 
-pub use chain_laws::{chains_are_exact, the_list_is_longest};
+pub use file_laws::{chains_are_exact, links_are_exact, the_list_is_longest};
 pub use laws::{
     acceptance_is_exact, attributes_are_exact, canonical_means_the_message, keys_are_ordered,
     lists_are_exact, messages_are_exact,

@@ -19,6 +19,7 @@ mod words;
 
 pub use entry::Entry;
 pub use fat::Fat;
+pub use marks::SectorMarks;
 pub use offset::file_offset;
 pub use sectors::Sectors;
 pub use view::StreamView;

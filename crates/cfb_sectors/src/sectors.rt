@@ -109,7 +109,8 @@ impl<'a> Sectors<'a> {
     /// The file offset of an entry's first byte.
     pub fn entry_offset(&self, id: u32) -> u64
         requires { id < entries self.now }
-        ensures { result ≡ place_of self.now id }
+        ensures place { result ≡ place_of self.now id }
+        ensures inside { result + 128 ≤ 268435456 }
     {
         entry_place(self.bytes, self.fat.size, &self.directory, id) as u64
     }

@@ -1,3 +1,4 @@
+pub mod Canonical
 pub mod Characters
 pub mod Coded
 pub mod Cuts

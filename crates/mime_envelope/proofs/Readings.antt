@@ -1,5 +1,5 @@
 -- What an envelope carries, or its first fault, by what was read.
-use Rattle.std.proofs.Common.{◌≡◌, ℕ, ◌+◌, Bool, List, [], ◌∷◌, length, Option, Some, None, Result, Ok, Err, inl, inr, refl, sym, ap, ◌∙◌}
+use Rattle.std.proofs.Common.{◌≡◌, ℕ, ◌+◌, List, length, Option, Some, None, Ok, Err, inl, inr, refl, sym, ap, ◌∙◌}
 use Rattle.carrier_io.specs.declared.reasons.Stop.{Stop}
 use Rattle.carrier_io.specs.declared.reasons.Stop.TheVariants as stops
 use Rattle.carrier_io.specs.Reasons.{fault_of}
@@ -8,7 +8,7 @@ use Rattle.carrier_model.specs.Base64.{base64_text}
 use Rattle.carrier_model.specs.Bytes.{AllBytes}
 use Rattle.carrier_model.specs.Reasons.{NO_TNEF_PART, BAD_PADDING}
 use Rattle.carrier_model.specs.Trail.{Fault}
-use Rattle.carrier_model.specs.Envelope.{Found, Part, search, bad_encoding, bad_character, characters, unless, text_of_part, text_found, envelope_text, Envelope, EnvelopeFault}
+use Rattle.carrier_model.specs.Envelope.{Part, search, bad_encoding, bad_character, characters, unless, text_of_part, text_found, envelope_text, Envelope, EnvelopeFault}
 
 pub text_stop : (s : Stop) (bytes : List ℕ) → Fails {Y = Option Part} s (search 16 0 bytes) → Fails {Y = ℕ × List ℕ} s (envelope_text bytes)
 unfolding envelope_text
@@ -39,7 +39,7 @@ text_good bytes p text h good also is =
     ∙ ap (λ (z : Option Fault). unless z (Ok (p.place + length p.body, characters p.body))) also
     ∙ ap (λ (z : List ℕ). Ok (p.place + length p.body, z)) (sym is)
 
-same_text : (bytes : List ℕ) (end other : ℕ) (text given : List ℕ) → envelope_text bytes ≡ Ok (end, text) → envelope_text bytes ≡ Ok (other, given) → given ≡ text
+pub same_text : (bytes : List ℕ) (end other : ℕ) (text given : List ℕ) → envelope_text bytes ≡ Ok (end, text) → envelope_text bytes ≡ Ok (other, given) → given ≡ text
 same_text bytes end other text given e f = let same : (other, given) ≡ (end, text) = cc in ap (λ (z : ℕ × List ℕ). z.1) same
 
 same_end : (bytes : List ℕ) (end other : ℕ) (text given : List ℕ) → envelope_text bytes ≡ Ok (end, text) → envelope_text bytes ≡ Ok (other, given) → other ≡ end

@@ -1,11 +1,11 @@
 -- What a search gives, by what was found on the way.
-use Rattle.std.proofs.Common.{◌≡◌, ℕ, zero, suc, ◌+◌, Bool, true, false, if◌then◌else◌, List, [], ◌∷◌, length, codes, Option, Some, None, Result, Ok, Err, refl, sym, ap, ◌∙◌, arith}
+use Rattle.std.proofs.Common.{◌≡◌, ℕ, zero, suc, ◌+◌, Bool, true, false, if◌then◌else◌, List, [], ◌∷◌, length, codes, Option, Some, None, Ok, Err, refl, sym, ap, ◌∙◌, arith}
 use Rattle.std.specs.List.{concat, list_any}
 use Rattle.carrier_io.specs.declared.reasons.Stop.{Stop}
 use Rattle.carrier_io.specs.declared.reasons.Stop.TheVariants as stops
 use Rattle.carrier_io.specs.Reasons.{fault_of}
 use Rattle.carrier_io.specs.Reads.{Fails}
-use Rattle.carrier_model.specs.Reasons.{PART_TOO_DEEP, MISSING_CLOSE, BAD_BOUNDARY}
+use Rattle.carrier_model.specs.Reasons.{PART_TOO_DEEP, MISSING_CLOSE}
 use Rattle.carrier_model.specs.Trail.{Fault}
 use Rattle.carrier_model.specs.Lines.{lines}
 use Rattle.carrier_model.specs.Entities.{body_of, field, is_tnef, is_multipart, boundary, is_boundary, is_closing, is_delimiter, part_from, parts}

@@ -1,12 +1,10 @@
 -- What the loops over a text's bytes have found.
-use Rattle.std.proofs.Common.{◌≡◌, ℕ, suc, ◌+◌, ◌-◌, ◌<◌, ◌≤◌, min, inl, inr, ◌==◌, ◌↔◌, ◌||◌, ◌&&◌, IsTrue, Bool, true, false, not, nat_eq, List, [], ◌∷◌, ◌++◌, length, take, drop, map, refl, sym, ap, ◌∙◌, arith}
+use Rattle.std.proofs.Common.{◌≡◌, ℕ, suc, ◌+◌, ◌-◌, ◌≤◌, min, inl, inr, Bool, true, false, nat_eq, List, [], ◌∷◌, length, take, drop, refl, sym, ap, ◌∙◌, arith}
 use Rattle.std.proofs.lemmas.Bool.Decides.{nat_tests}
-use Rattle.std.proofs.lemmas.List.Sums.{prefix_len-le-length, suffix_len-le-length}
+use Rattle.std.proofs.lemmas.List.Sums.{suffix_len-le-length}
 use Rattle.std.proofs.lemmas.List.{length-take, take_all}
 use Rattle.std.proofs.lemmas.Bool.{cases_lt}
 use Rattle.std.specs.List.{prefix_len, suffix_len, list_all, starts_with}
-use Rattle.std.specs.Char.{to_ascii_lowercase}
-use Rattle.std.specs.Str.{str_eq_ignore_ascii_case}
 use Rattle.carrier_model.specs.Lines.{is_blank, trimmed, text_of, is_word, is_mark, size_before, before}
 
 pub trimmed_is : (bytes rest : List ℕ) (n end : ℕ) → n ≡ prefix_len is_blank bytes → rest ≡ drop n bytes → end ≤ length rest → suffix_len is_blank rest ≡ length rest - end → take end rest ≡ trimmed bytes

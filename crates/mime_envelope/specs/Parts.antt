@@ -1,5 +1,5 @@
 -- A search's steps, and what the types mean.
-use Rattle.std.specs.Prelude.{ℕ, ◌+◌, Bool, if◌then◌else◌, List, length, Option, Some, None, Result, Ok, Err}
+use Rattle.std.specs.Prelude.{ℕ, Bool, if◌then◌else◌, List, Option, Some, None, Result, Ok, Err}
 use Rattle.std.specs.List.{concat}
 use Rattle.carrier_model.specs.Reasons.{BAD_BOUNDARY}
 use Rattle.carrier_model.specs.Trail.{Fault}

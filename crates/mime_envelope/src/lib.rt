@@ -3,6 +3,7 @@
 
 mod coder;
 mod header;
+mod laws;
 mod marks;
 mod parameters;
 mod part;
@@ -12,6 +13,7 @@ mod search;
 mod text;
 mod writing;
 
+pub use laws::envelopes_are_exact;
 pub use reading::payload;
 pub use writing::{envelope_size, write_envelope};
 

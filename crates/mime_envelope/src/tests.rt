@@ -1,6 +1,7 @@
+ghost use Rattle.std.specs.Prelude.{◌<◌};
+
 use crate::*;
 use carrier_io::{Fault, MemorySink, Reason, Stop};
-use std::process::Abort;
 use std::test::*;
 
 const TNEF: [u8; 6] = [0x78, 0x9f, 0x3e, 0x22, 0x01, 0x00];
@@ -15,6 +16,7 @@ fn wraps(rt: HostRuntime) -> Result<(), Fail> {
     assert_eq!(rt; sink.bytes(), WRAPPED.as_slice());
     assert_eq!(rt; envelope_size(6), 178);
     assert_eq!(rt; envelope_size(127), 346);
+    envelopes_are_exact();
     Ok(())
 }
 
@@ -36,51 +38,114 @@ fn is_refused(rt: &HostRuntime, bytes: &[u8], reason: Reason, offset: u64) -> bo
 
 #[test]
 fn unwraps(rt: HostRuntime) -> Result<(), Fail> {
-    assert!(rt; carries(&rt, WRAPPED));
-    let mail =
-        b"Content-Type: multipart/mixed; boundary=\"b1\"\n\n--b1\nContent-Type: text/plain\n\nhello\n--b1\nContent-Type: application/ms-tnef; name=\"winmail.dat\"\nContent-Transfer-Encoding: base64\n\neJ8+IgEA\n--b1--\n";
-    assert!(rt; carries(&rt, mail));
-    assert!(rt;
-        is_refused(
-            &rt,
+    let rows: [&[u8]; 7] = [
+        WRAPPED,
+        b"Content-Type: multipart/mixed; boundary=\"b1\"\n\n--b1\nContent-Type: text/plain\n\nhello\n--b1\nContent-Type: application/ms-tnef; name=\"winmail.dat\"\nContent-Transfer-Encoding: base64\n\neJ8+IgEA\n--b1--\n",
+        // Letters in either case, folded fields, and both line ends.
+        b"content-TYPE \t:\r\n application/VND.MS-tnef;\n\tname=x\r\nCONTENT-transfer-ENCODING:\n BASE64\t\r\n\neJ8+\r\nIg EA",
+        // A boundary in double quotes, with an escape and a semicolon.
+        b"Content-Type: Multipart/x; a=\"boundary=no;\"; BOUNDARY = \"b\\\"1;\" ; boundary=b2\n\n--b\"1;x\n--b\"1; \t\r\nContent-Type: application/ms-tnef\nContent-Transfer-Encoding: base64\n\neJ8+IgEA\n--b\"1;--\t\n--b\"1;\n no header",
+        // A boundary of 70 characters.
+        b"Content-Type: multipart/mixed; boundary=xxxxxxxxxxxxxxxxxxxxxxxxxxxxxxxxxxxxxxxxxxxxxxxxxxxxxxxxxxxxxxxxxxxxxx\n\n--xxxxxxxxxxxxxxxxxxxxxxxxxxxxxxxxxxxxxxxxxxxxxxxxxxxxxxxxxxxxxxxxxxxxxx\nContent-Type: application/ms-tnef\nContent-Transfer-Encoding: base64\n\neJ8+IgEA\n--xxxxxxxxxxxxxxxxxxxxxxxxxxxxxxxxxxxxxxxxxxxxxxxxxxxxxxxxxxxxxxxxxxxxxx--",
+        // The first of two TNEF parts.
+        b"Content-Type: multipart/mixed; boundary=b\n\n--b\nContent-Type: application/ms-tnef\nContent-Transfer-Encoding: base64\n\neJ8+IgEA\n--b\nContent-Type: application/ms-tnef\nContent-Transfer-Encoding: base64\n\nAAAA\n--b--\n",
+        // A header that a part's end ends.
+        b"Content-Type: multipart/mixed; boundary=b\n\n--b\nContent-Type: text/plain\n--b\nContent-Type: application/ms-tnef\nContent-Transfer-Encoding: base64\n\neJ8+IgEA\n--b--\n",
+    ];
+    for bytes in rows {
+        assert!(rt; carries(&rt, bytes));
+    }
+    Ok(())
+}
+
+#[test]
+fn refuses(rt: HostRuntime) -> Result<(), Fail> {
+    let rows: [(&[u8], Reason, u64); 12] = [
+        (
             b"Content-Type: multipart/mixed; boundary=\"b1\"\n\n--b1\nContent-Type: text/plain\n\nhello\n--b1\nContent-Type: application/ms-tnef; name=\"winmail.dat\"\nContent-Transfer-Encoding: base64\n\neJ8+IgEA\n",
             Reason::MissingClose,
-            186
-        )
-    );
-    assert!(rt; is_refused(&rt, b"Subject: hello\n\nhello\n", Reason::NoTnefPart, 0));
-    assert!(rt;
-        is_refused(
-            &rt,
+            186,
+        ),
+        (b"Subject: hello\n\nhello\n", Reason::NoTnefPart, 0),
+        (
             b"MIME-Version: 1.0\r\nContent-Type: application/ms-tnef; name=\"winmail.dat\"\r\nContent-Transfer-Encoding: base64\r\nContent-Disposition: attachment; filename=\"winmail.dat\"\r\n\r\neJ8+IgE*\r\n",
             Reason::BadBase64,
-            175
-        )
-    );
-    assert!(rt;
-        is_refused(
-            &rt,
+            175,
+        ),
+        (
             b"MIME-Version: 1.0\r\nContent-Type: application/ms-tnef; name=\"winmail.dat\"\r\nContent-Transfer-Encoding: base64\r\nContent-Disposition: attachment; filename=\"winmail.dat\"\r\n\r\neJ8+IgE\r\n",
             Reason::BadPadding,
-            177
-        )
-    );
-    assert!(rt;
-        is_refused(
-            &rt,
+            177,
+        ),
+        (
             b"MIME-Version: 1.0\r\nContent-Type: application/ms-tnef; name=\"winmail.dat\"\r\nContent-Disposition: attachment; filename=\"winmail.dat\"\r\n\r\neJ8+IgEA\r\n",
             Reason::NotBase64,
-            133
-        )
-    );
-    assert!(rt;
-        is_refused(
-            &rt,
-            b"Content-Type: multipart/mixed\n\n--b1\nContent-Type: text/plain\n\nhello\n--b1--\n",
+            133,
+        ),
+        (
+            b"Content-Type: multipart/mixed\n\n--b1\nContent-Type: text/plain\n\nhello\n--b1\nContent-Type: application/ms-tnef; name=\"winmail.dat\"\nContent-Transfer-Encoding: base64\n\neJ8+IgEA\n--b1--\n",
             Reason::BadBoundary,
-            0
-        )
-    );
-    assert!(rt; is_refused(&rt, b" Subject: hello\n\nhello\n", Reason::BadHeaderLine, 0));
+            0,
+        ),
+        (b" Subject: hello\n\nhello\n", Reason::BadHeaderLine, 0),
+        // A boundary that ends in a space, and one of 71 characters.
+        (
+            b"X: y\nContent-Type: multipart/mixed; boundary=\"b1 \"\n\n--b1 --\n",
+            Reason::BadBoundary,
+            5,
+        ),
+        (
+            b"Content-Type: multipart/mixed; boundary=xxxxxxxxxxxxxxxxxxxxxxxxxxxxxxxxxxxxxxxxxxxxxxxxxxxxxxxxxxxxxxxxxxxxxxx\n\n--xxxxxxxxxxxxxxxxxxxxxxxxxxxxxxxxxxxxxxxxxxxxxxxxxxxxxxxxxxxxxxxxxxxxxxx--\n",
+            Reason::BadBoundary,
+            0,
+        ),
+        // A closing line before the first delimiter line.
+        (
+            b"Content-Type: multipart/mixed; boundary=b1\n\n--b1--\n--b1\nContent-Type: application/ms-tnef\nContent-Transfer-Encoding: base64\n\neJ8+IgEA\n--b1--\n",
+            Reason::NoTnefPart,
+            0,
+        ),
+        // A carriage return alone ends no line.
+        (b"X: y\rZ\n\rno colon\n\n", Reason::BadHeaderLine, 7),
+        // A last header line without a line end, and another encoding.
+        (
+            b"Content-Type: application/ms-tnef\nContent-Transfer-Encoding: 7bit",
+            Reason::NotBase64,
+            34,
+        ),
+    ];
+    for (bytes, reason, offset) in rows {
+        assert!(rt; is_refused(&rt, bytes, reason, offset));
+    }
+    Ok(())
+}
+
+/// A TNEF part so many multiparts deep.
+fn nested(rt: &HostRuntime, depth: u8) -> Result<Vec<u8>, Fail>
+    requires { depth < 100 }
+{
+    let mut mail = Vec::new(rt.alloc());
+    for boundary in b'A'..b'A' + depth {
+        mail.extend_from_slice(b"Content-Type: multipart/mixed; boundary=")?;
+        mail.push(boundary)?;
+        mail.extend_from_slice(b"\n\n--")?;
+        mail.push(boundary)?;
+        mail.push(b'\n')?;
+    }
+    mail.extend_from_slice(
+        b"Content-Type: application/ms-tnef\nContent-Transfer-Encoding: base64\n\neJ8+IgEA\n",
+    )?;
+    for boundary in (b'A'..b'A' + depth).rev() {
+        mail.extend_from_slice(b"--")?;
+        mail.push(boundary)?;
+        mail.extend_from_slice(b"--\n")?;
+    }
+    Ok(mail)
+}
+
+#[test]
+fn nests(rt: HostRuntime) -> Result<(), Fail> {
+    assert!(rt; carries(&rt, &nested(&rt, 16)?));
+    assert!(rt; is_refused(&rt, &nested(&rt, 17)?, Reason::PartTooDeep, 752));
     Ok(())
 }

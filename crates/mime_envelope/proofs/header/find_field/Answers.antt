@@ -1,5 +1,5 @@
-use Rattle.std.proofs.Common.{◌≡◌, ◌++◌, List, ℕ, true, false, Some, take, suc, sym, ap, ◌∙◌, arith}
-use Rattle.carrier_model.specs.Lines.{lines, before, behind, text_of, is_word, size_before}
+use Rattle.std.proofs.Common.{◌≡◌, ◌++◌, List, ℕ, true, false, Some, sym, ap, ◌∙◌, arith}
+use Rattle.carrier_model.specs.Lines.{lines, behind, text_of}
 use Rattle.carrier_model.specs.Entities.{continued}
 use Rattle.carrier_model.proofs.Entities.{field-none, field-end, field-found, field-other, field-blank}
 use Rattle.mime_envelope.proofs.Coded.{none_left}

@@ -1,4 +1,4 @@
-use Rattle.std.proofs.Common.{◌≡◌, ℕ, ap, ◌∙◌, refl, sym, arith}
+use Rattle.std.proofs.Common.{◌∙◌, arith}
 use Rattle.mime_envelope.proofs.Quoted.{size_escaped, size_other, size_backslash, size_quote, size_end}
 use Rattle.mime_envelope.proofs.parameters.quoted_size.Goals as goal
 use Rattle.mime_envelope.proofs.parameters.quoted_size.Goals.{then-is_escaped, else-is_escaped+else-c-eq34+then-c-eq92, else-is_escaped+else-c-eq34+else-c-eq92}

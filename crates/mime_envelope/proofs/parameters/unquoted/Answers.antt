@@ -1,5 +1,4 @@
-use Rattle.std.proofs.Common.{◌≡◌, ℕ, ap, ◌∙◌, refl, sym, arith}
-use Rattle.std.proofs.lemmas.List.{append-nil}
+use Rattle.std.proofs.Common.{ap, ◌∙◌}
 use Rattle.mime_envelope.proofs.Quoted.{unq_escaped, unq_other, unq_backslash, unq_quote, unq_end_escaped, unq_end_plain}
 use Rattle.mime_envelope.proofs.parameters.unquoted.Goals as goal
 use Rattle.mime_envelope.proofs.parameters.unquoted.Goals.{then-is_escaped+in_ok-push, else-is_escaped+else-c-eq34+then-c-eq92, else-is_escaped+else-c-eq34+else-c-eq92+in_ok-push-2, then-is_escaped-2+in_ok-push-3, else-is_escaped-2}

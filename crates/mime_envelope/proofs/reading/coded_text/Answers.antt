@@ -1,4 +1,4 @@
-use Rattle.std.proofs.Common.{Option, Ok, sym, ap, ◌∙◌}
+use Rattle.std.proofs.Common.{Option, Ok, ap, ◌∙◌}
 use Rattle.std.proofs.lemmas.Result.{err_from_is_err_and}
 use Rattle.mime_envelope.specs.Parts.{found_view, part_view}
 use Rattle.mime_envelope.proofs.Readings.{text_stop, text_none, text_encoding, text_character, text_good}

@@ -1,13 +1,12 @@
-use Rattle.std.proofs.Common.{◌≡◌, ◌+◌, ◌-◌, ℕ, suc, Bool, List, length, codes, Option, Some, None, Ok, refl, sym, ap, ◌∙◌, arith}
+use Rattle.std.proofs.Common.{◌+◌, ◌-◌, Bool, length, Option, Ok, sym, ap, ◌∙◌, arith}
 use Rattle.std.proofs.lemmas.Result.{err_from_is_err_and}
 use Rattle.carrier_model.specs.Lines.{lines}
 use Rattle.carrier_model.specs.Entities.{is_tnef, is_multipart, boundary, parts}
-use Rattle.carrier_model.specs.Envelope.{Found, Part, or_else, first_of, search}
-use Rattle.carrier_model.proofs.Lines.{concat-lines}
+use Rattle.carrier_model.specs.Envelope.{or_else, first_of, search}
 use Rattle.mime_envelope.specs.Views.{field_view}
 use Rattle.mime_envelope.specs.Parts.{found_view}
 use Rattle.mime_envelope.proofs.Coded.{none_left}
-use Rattle.mime_envelope.proofs.Searches.{search_fault, search_none, search_tnef, search_other, search_deep, search_multipart, bad_boundary, good_boundary, missing_close, closed, first_none, first_closing, first_line, here, fails_marks, fails_here, found_here, not_here, tnef_part}
+use Rattle.mime_envelope.proofs.Searches.{search_fault, search_none, search_tnef, search_other, search_deep, search_multipart, good_boundary, missing_close, closed, first_none, first_closing, first_line, here, fails_marks, fails_here, found_here, not_here, tnef_part}
 use Rattle.mime_envelope.proofs.search.+searching.Goals as goal
 
 pub search-returns-in_err-place-clause-value : goal.search-returns-in_err-place-clause-value

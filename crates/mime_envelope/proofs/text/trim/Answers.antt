@@ -1,6 +1,5 @@
-use Rattle.std.proofs.Common.{◌≡◌, length, sym, ◌∙◌, arith}
+use Rattle.std.proofs.Common.{sym, ◌∙◌, arith}
 use Rattle.std.proofs.lemmas.List.Sums.{suffix_len-take_no}
-use Rattle.std.specs.List.{suffix_len}
 use Rattle.carrier_model.specs.Lines.{is_blank}
 use Rattle.mime_envelope.proofs.Texts.{trimmed_is, suffix_none}
 use Rattle.mime_envelope.proofs.text.trim.Goals as goal

@@ -1,4 +1,4 @@
-use Rattle.std.proofs.Common.{◌≡◌, ◌∙◌, sym, Ok, Err}
+use Rattle.std.proofs.Common.{◌≡◌, ◌∙◌, sym, Err}
 use Rattle.base64.specs.GeneralPurpose.{decode_of}
 use Rattle.mime_envelope.proofs.Coded.{encode_of-is, IsStrict-standard}
 use Rattle.mime_envelope.proofs.coder.Coder.decode.Goals as goal

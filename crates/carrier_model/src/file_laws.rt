@@ -1,0 +1,23 @@
+//! Laws about compound files.
+ghost use Rattle.std.specs.Prelude.{◌≡◌, ◌≤◌, ℕ, List, length, Ok};
+ghost use Rattle.carrier_model.specs.Chains.{Run, longest, after, end_word, chain_of, FreshChain};
+ghost use Rattle.carrier_model.specs.Links.{Directory, Link, Links, Linked, AreNew, ids, links_of, no_link};
+
+/// What is answered of a chain is the one chain, and it is answered wherever there is one.
+pub fn chains_are_exact()
+    ensures sound { (T : List ℕ) (at : ℕ → ℕ) (s field bound whole need : ℕ) (earlier c : List ℕ) → chain_of T at s field bound whole need earlier ≡ Ok c → FreshChain T s bound whole need earlier c }
+    ensures only { (T : List ℕ) (at : ℕ → ℕ) (s field bound whole need : ℕ) (earlier c : List ℕ) → bound ≤ end_word → FreshChain T s bound whole need earlier c → chain_of T at s field bound whole need earlier ≡ Ok c }
+{}
+
+/// The list of which a chain's fault speaks is linked by the table, of distinct members that may be taken, and no such
+/// list is longer.
+pub fn the_list_is_longest()
+    ensures run { (T : List ℕ) (s bound whole : ℕ) (earlier : List ℕ) → let c = longest bound T s bound whole earlier in Run T s bound whole earlier c (after T s c) }
+    ensures longest { (T : List ℕ) (s bound whole : ℕ) (earlier c : List ℕ) (x : ℕ) → Run T s bound whole earlier c x → length c ≤ length (longest bound T s bound whole earlier) }
+{}
+
+/// What a walk answers are the entries as they are linked, each once, and it answers wherever they are linked so.
+pub fn links_are_exact()
+    ensures sound { (d : Directory) (link : Link) (seen : List ℕ) (t : Links) → links_of d link seen ≡ Ok t → Linked d link.depth link.target t × AreNew seen (ids t) }
+    ensures only { (d : Directory) (link : Link) (seen : List ℕ) (t : Links) → d.count ≤ no_link → Linked d link.depth link.target t → AreNew seen (ids t) → links_of d link seen ≡ Ok t }
+{}

@@ -1,0 +1,11 @@
+//! The directory of a compound file: its entries as they are linked.
+#![tactic(auto)]
+
+mod links;
+mod walk;
+
+pub use links::{Child, Link};
+pub use walk::walk_directory;
+
+#[cfg(test)]
+mod tests;

@@ -1,0 +1,25 @@
+//! Links of a directory, and what is to be done of a walk.
+
+/// A link that is to be visited: the entry that it names, its file offset, and the depth and the storage of what it
+/// names.
+#[derive(Clone, Copy)]
+pub struct Link {
+    pub target: u32,
+    pub place: u64,
+    pub depth: u32,
+    pub parent: u32,
+}
+
+/// An entry in a storage, each by its number.
+#[derive(Clone, Copy)]
+pub struct Child {
+    pub parent: u32,
+    pub id: u32,
+}
+
+/// What is to be done later: to visit what a link names, or to give an entry its place among its siblings.
+#[derive(Clone, Copy)]
+pub enum Pending {
+    Visit(Link),
+    Place(Child),
+}
