@@ -8,6 +8,7 @@ pub mod Elements
 pub mod Entities
 pub mod EntryLaws
 pub mod EnvelopeText
+pub mod Grammar
 pub mod Ids
 pub mod Items
 pub mod Jobs
@@ -23,9 +24,12 @@ pub mod Pairs
 pub mod Parameters
 pub mod Place
 pub mod PlaceLaws
+pub mod Reading
 pub mod SortedLists
 pub mod Stream
 pub mod Tnef
+pub mod TnefLists
+pub mod TnefMessage
 pub mod Trees
 pub mod ViewLaws
 pub mod VisitLaws

@@ -1,0 +1,12 @@
+use Rattle.std.proofs.Common.{◌≡◌, ◌*◌, ◌<◌, ◌^◌, ℕ, List, length, All}
+use Rattle.prop_values.specs.Kinds.{kind_number}
+use Rattle.carrier_model.specs.Values.{IsBytes}
+use Rattle.carrier_model.specs.TnefLists.{padded, le_number}
+use Rattle.tnef_props.proofs.ValueForms.{Turns}
+use Rattle.tnef_props.proofs.values.numbers_from.Given as goal
+
+abbrev pub invariant-loop-k : goal.invariant-loop-k
+invariant-loop-k l = record {
+  turns : Turns (padded l.width) le_number l.fn.from l.count l._k l.list l.rest;
+  fit : All (λ n. n < 2 ^ (8 * l.width)) l.list;
+}

@@ -1,0 +1,18 @@
+use Rattle.std.proofs.Common.{◌≡◌, ℕ, List, sym, subst, ap}
+use Rattle.std.proofs.lemmas.Result.{err_from_is_err_and}
+use Rattle.prop_values.specs.Kinds.{kind_number}
+use Rattle.carrier_model.specs.Grammar.{and_then, gives}
+use Rattle.carrier_model.specs.Values as plain
+use Rattle.carrier_model.specs.TnefLists.{one, value, padded, text, many, numbers_of, bits_of}
+use Rattle.tnef_props.specs.Steps.{Takes}
+use Rattle.tnef_props.proofs.Forms.{view_takes, view_refuses, same_takes, same_refuses, then_takes, then_first, then_next, seen_takes}
+use Rattle.tnef_props.proofs.ValueForms.{value_number, value_guid, value_bytes, value_numbers, value_guids, value_parts, text_valid}
+use Rattle.tnef_props.proofs.values.numbers_value.Goals as goal
+
+pub returns-in_err-list-clause-fault : goal.returns-in_err-list-clause-fault
+returns-in_err-list-clause-fault c =
+    let p = err_from_is_err_and c.from_residual.result c.from_residual.ensures.1 in
+    rw (p.1, p.2) (view_refuses (value (kind_number c.args.kind)) (numbers_of c.args.width) (plain.numbers (kind_number c.args.kind)) c.args.from c.in_err-list.field-0.0 (value_numbers (kind_number c.args.kind) c.args.width c.requires.0 c.requires.1 c.requires.2 c.requires.3 c.requires.4) c.in_err-list.ensures.fault)
+
+pub returns-clause-found : goal.returns-clause-found
+returns-clause-found c = view_takes (value (kind_number c.args.kind)) (numbers_of c.args.width) (plain.numbers (kind_number c.args.kind)) c.args.from c.in_ok-list.rest c.in_ok-list.list (value_numbers (kind_number c.args.kind) c.args.width c.requires.0 c.requires.1 c.requires.2 c.requires.3 c.requires.4) c.in_ok-list.ensures.found

@@ -1,0 +1,4 @@
+pub mod Meaning
+pub mod ReadLists
+pub mod Shapes
+pub mod Steps

@@ -1,0 +1,18 @@
+//! Lists that were read, and the Object of an attachment.
+
+use prop_values::Props;
+
+/// The bytes of an Object, and the place of the first in the whole input.
+#[derive(Clone, Copy)]
+pub struct Object<'a> {
+    pub bytes: &'a [u8],
+    pub offset: u64,
+}
+
+/// A list that was read: its properties, the Object of an attachment, and the place behind the list.
+#[derive(Drop)]
+pub struct ReadList<'a> {
+    pub props: Props<&'a [u8]>,
+    pub object: Option<Object<'a>>,
+    pub end: usize,
+}

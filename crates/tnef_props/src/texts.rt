@@ -1,0 +1,77 @@
+//! Texts and their nulls.
+ghost use Rattle.std.specs.Prelude.{◌≡◌, ◌<◌, ◌≤◌, ◌^◌, ◌%◌, ℕ, List, length, IfOk, IfErr, nat_eq};
+ghost use Rattle.carrier_model.specs.TnefLists as lists;
+ghost use Rattle.prop_values.specs.Kinds.{kind_number};
+ghost use Rattle.tnef_props.specs.Steps.{Takes, Refuses};
+
+use crate::fields::sized;
+use crate::rest::Rest;
+use carrier_io::{NoMemory, Stop, Units, u16_at};
+use prop_values::Kind;
+use std::alloc::Global;
+
+/// The bytes of a null at the end of a text of the kind.
+pub fn null_size(kind: Kind) -> usize
+    ensures { result ≡ lists.null_of (kind_number kind) }
+{
+    match kind {
+        Kind::String8 => 1,
+        Kind::String => 2,
+        _ => 0,
+    }
+}
+
+/// Whether the size of a text of the kind is even.
+pub fn is_even(kind: Kind) -> bool
+    ensures { result ≡ nat_eq (kind_number kind) 0x001F }
+{
+    match kind {
+        Kind::String => true,
+        _ => false,
+    }
+}
+
+/// The bytes without the last n of them, where these are zero.
+pub fn without_null<'a>(bytes: &'a [u8], n: usize) -> &'a [u8]
+    ensures { result.now ≡ lists.without_null n bytes.entry.now }
+{
+    if bytes.len() < n {
+        return bytes;
+    }
+    let (front, end) = bytes.split_at(bytes.len() - n);
+    if is_zero(end) { front } else { bytes }
+}
+
+/// Whether all bytes are zero.
+fn is_zero(bytes: &[u8]) -> bool
+    ensures { result ≡ nat_eq (lists.le_number bytes.now) 0 }
+{
+    for b in bytes {
+        if *b != 0 {
+            return false;
+        }
+    }
+    true
+}
+
+/// A text without its null, or bytes.
+#[tactic(auto, unfolding(carrier_model::specs::TnefLists::text))]
+pub fn text<'a>(from: Rest<'a>, kind: Kind) -> Result<(&'a [u8], Rest<'a>), Stop>
+    ensures found { IfOk result (λ x. Takes (lists.text (kind_number kind)) from.entry x.0.now x.1) }
+    ensures fault { IfErr result (Refuses (lists.text (kind_number kind)) from.entry) }
+{
+    let (object, rest) = sized(from, is_even(kind), 0)?;
+    Ok((without_null(object.bytes, null_size(kind)), rest))
+}
+
+/// The units that bytes are.
+pub fn units_from(alloc: Global, bytes: &[u8]) -> Result<Units, NoMemory>
+    requires { length bytes.now ≤ 512 }
+    ensures { IfOk result (λ r. r ≡ lists.units_of bytes.now) }
+{
+    let mut units = Units::new(alloc);
+    for k in 0..bytes.len() / 2 {
+        units.push(u16_at(bytes, 2 * k))?;
+    }
+    Ok(units)
+}
