@@ -1,4 +1,4 @@
-use Rattle.std.proofs.Common.{◌≡◌, ◌<◌, ◌-◌, ◌^◌, ◌∙◌, length, ap, arith}
+use Rattle.std.proofs.Common.{◌<◌, ◌-◌, ◌^◌, ◌∙◌, length, ap, arith}
 use Rattle.std.specs.List.{insert}
 use Rattle.block_list.specs.Blocks.{flat}
 use Rattle.block_list.proofs.Flat.{starts-length, starts-bounded, start-read, added-flat, added-starts}

@@ -1,4 +1,4 @@
-use Rattle.std.proofs.Common.{◌≡◌, ◌≤◌, ◌<◌, ◌-◌, ◌^◌, length}
+use Rattle.std.proofs.Common.{◌≡◌, ◌<◌, ◌-◌, ◌^◌, length}
 use Rattle.std.specs.List.{AllWithin}
 use Rattle.block_list.specs.Blocks.{raised}
 use Rattle.block_list.proofs.starts.raise_from.Given as goal

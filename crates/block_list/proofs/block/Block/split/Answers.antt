@@ -1,4 +1,4 @@
-use Rattle.std.proofs.Common.{refl, ap, sym, ◌∙◌, take, drop}
+use Rattle.std.proofs.Common.{ap, sym, ◌∙◌, take, drop}
 use Rattle.std.proofs.lemmas.List.{take-map, drop-map}
 use Rattle.block_list.proofs.block.Block.split.Goals as goal
 
