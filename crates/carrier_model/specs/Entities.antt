@@ -78,7 +78,7 @@ is_quoted (c ∷ rest) = c == 34
 unfoldable pub parameter_value : List ℕ → List ℕ
 parameter_value rest = if is_quoted (value_on rest) then unquoted (drop 1 (value_on rest)) else trimmed (behind 61 (before 59 rest))
 
--- up to where a semicolon doesn't end the parameter that begins here
+-- how far from here on a semicolon doesn't end the parameter that begins here
 unfoldable pub protected_size : List ℕ → ℕ
 protected_size rest =
     if is_parameter rest && is_quoted (value_on rest) then length rest - length (drop (quoted_size (drop 1 (value_on rest))) (drop 1 (value_on rest))) else 0

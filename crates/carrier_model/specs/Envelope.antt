@@ -80,11 +80,12 @@ bad_encoding p = elim p.encoding [ None ↦ Some (NOT_BASE64, p.place) | Some e 
 abbrev pub characters : List ℕ → List ℕ
 characters body = filter (λ c. not (is_skipped c)) body
 
--- a part's base64 text, and the offset of its body's end
+-- a fault, or else what follows
 abbrev pub unless : Option Fault → Result (ℕ × List ℕ) Fault → Result (ℕ × List ℕ) Fault
 unless None next = next
 unless (Some g) next = Err g
 
+-- a part's base64 text, and the offset of its body's end
 abbrev pub text_of_part : Part → Result (ℕ × List ℕ) Fault
 text_of_part p = unless (bad_encoding p) (unless (bad_character p.place p.body) (Ok (p.place + length p.body, characters p.body)))
 

@@ -1,6 +1,8 @@
 -- What the engine codes is the base64 text, and lines written one after the other.
-use Rattle.std.proofs.Common.{◌≡◌, ℕ, suc, ◌+◌, ◌*◌, ◌/◌, ◌%◌, ◌<◌, ◌==◌, Bool, true, false, List, [], ◌∷◌, ◌++◌, length, Option, refl, sym, ap, ◌∙◌, append_assoc, arith}
+use Rattle.std.proofs.Common.{◌≡◌, ℕ, suc, ◌+◌, ◌*◌, ◌/◌, ◌%◌, ◌<◌, ◌==◌, Bool, true, false, List, [], ◌∷◌, ◌++◌, length, take, Option, refl, sym, ap, ◌∙◌, append_assoc, arith}
 use Rattle.std.proofs.lemmas.Bool.Decides.{nat_tests}
+use Rattle.std.proofs.Math.ListN.{set}
+use Rattle.std.proofs.lemmas.List.{length-set, take_more_set}
 use Rattle.std.specs.Io.KnownBytes.{Appends}
 use Rattle.carrier_io.proofs.Known.{Written, Written-failed, Appends-then, AppendsFront-whole}
 use Rattle.carrier_io.specs.Known.{AppendsFront}
@@ -8,6 +10,7 @@ use Rattle.base64.specs.declared.engine.general_purpose.GeneralPurpose.{GeneralP
 use Rattle.base64.specs.GeneralPurpose.{encode_of, IsStrict}
 use Rattle.base64.specs.Rfc4648.{encode, encode_symbols, padding_len}
 use Rattle.carrier_model.specs.Base64.{alphabet, symbol, base64_text}
+use Rattle.carrier_model.specs.EnvelopeText.{line_end}
 use Rattle.mime_envelope.specs.Engine.{IsStandard}
 
 padding_len-three : (n : ℕ) → padding_len (suc (suc (suc n))) ≡ padding_len n
@@ -46,3 +49,14 @@ Written-line a b c bytes whole line rest e w p = record {
 -- writing a line of it failed
 pub Written-stopped : (a b c : Option (List ℕ)) (bytes whole line rest : List ℕ) → whole ≡ line ++ rest → Written a b bytes whole → AppendsFront b c line → AppendsFront a c bytes
 Written-stopped a b c bytes whole line rest e w p = Written-failed a b c bytes whole w (rw e (AppendsFront-whole b c line rest p))
+
+-- a line's characters, with its end written behind them
+pub ended_line : (text new coded : List ℕ) (n : ℕ) → n + 1 < length text → take n text ≡ coded → new ≡ set (set text n 13) (n + 1) 10 → take (n + 2) new ≡ coded ++ line_end
+ended_line text new coded n room is put =
+    let two : n + 2 ≡ n + 1 + 1 = omega arith in
+    let first : take (n + 1) (set text n 13) ≡ coded ++ 13 ∷ [] = take_more_set text n 13 (omega arith) ∙ ap (λ (z : List ℕ). z ++ 13 ∷ []) is in
+    ap (λ (z : List ℕ). take (n + 2) z) put
+    ∙ ap (λ (k : ℕ). take k (set (set text n 13) (n + 1) 10)) two
+    ∙ take_more_set (set text n 13) (n + 1) 10 (omega (arith, length-set text n 13))
+    ∙ ap (λ (z : List ℕ). z ++ 10 ∷ []) first
+    ∙ append_assoc coded (13 ∷ []) (10 ∷ [])

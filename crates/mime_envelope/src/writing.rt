@@ -5,7 +5,7 @@ ghost use Rattle.carrier_model.specs.Base64.{base64_text};
 ghost use Rattle.carrier_model.specs.EnvelopeText.{line_end, body_lines, envelope_of};
 
 use crate::coder::Coder;
-use carrier_io::{Failed, Sink, write_parts, write_pieces};
+use carrier_io::{Failed, Sink, write_pieces};
 
 const HEAD_SIZE: u64 = 168;
 
@@ -53,7 +53,9 @@ fn write_line<W: Sink>(coder: Coder, line: &[u8], sink: &mut W) -> Result<(), Fa
     requires { length line.now ≤ 57 }
     ensures { Writes (W.held sink.old) (W.held sink.new) (W.faults sink.old) (W.faults sink.new) result (base64_text line.now ++ line_end) }
 {
-    let mut text = [0u8; 76];
+    let mut text = [0u8; 78];
     let size = coder.encode_line(line, &mut text);
-    write_parts(sink, &[&text[..size], b"\r\n"])
+    text[size] = b'\r';
+    text[size + 1] = b'\n';
+    write_pieces(sink, &text[..size + 2])
 }
