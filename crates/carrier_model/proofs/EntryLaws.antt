@@ -1,8 +1,8 @@
 -- Where directory entries lie.
-use Rattle.std.proofs.Common.{◌≡◌, ℕ, zero, suc, ◌+◌, ◌-◌, ◌*◌, ◌/◌, ◌%◌, ◌<◌, ◌≤◌, List, [], ◌∷◌, length, get_or, map, refl, sym, ◌∙◌, ap, arith, ◌⊎◌, inl, inr}
+use Rattle.std.proofs.Common.{◌≡◌, ℕ, zero, suc, ◌+◌, ◌-◌, ◌*◌, ◌/◌, ◌%◌, ◌<◌, ◌≤◌, List, [], ◌∷◌, length, get_or, refl, ap, arith, inl, inr}
 use Rattle.std.specs.Prelude.{IsTrue}
 use Rattle.carrier_model.specs.Sectors.{is_size, sector_start}
-use Rattle.carrier_model.specs.Streams.{starts_of, place_in}
+use Rattle.carrier_model.specs.Streams.{starts_of}
 use Rattle.carrier_model.specs.Entries.{entry_count, entry_place}
 use Rattle.carrier_model.proofs.PlaceLaws.{size_cases}
 

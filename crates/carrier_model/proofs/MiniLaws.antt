@@ -1,5 +1,5 @@
 -- Where mini sectors lie.
-use Rattle.std.proofs.Common.{◌≡◌, ℕ, zero, suc, ◌+◌, ◌-◌, ◌*◌, ◌/◌, ◌%◌, ◌<◌, ◌≤◌, List, [], ◌∷◌, length, get_or, map, min, true, refl, sym, ◌∙◌, ap, arith}
+use Rattle.std.proofs.Common.{◌≡◌, ℕ, zero, suc, ◌+◌, ◌*◌, ◌/◌, ◌%◌, ◌<◌, ◌≤◌, List, [], ◌∷◌, length, get_or, map, min, true, refl, ◌∙◌, ap, arith}
 use Rattle.std.specs.Prelude.{IsTrue, All}
 use Rattle.std.specs.Int.{div_ceil}
 use Rattle.std.proofs.lemmas.List.{length-map}
@@ -7,7 +7,6 @@ use Rattle.std.proofs.lemmas.List.Elements.{All-get_or, All-from_get_or}
 use Rattle.carrier_model.specs.Sectors.{is_size}
 use Rattle.carrier_model.specs.Streams.{place_in, places_of, mini_offsets, lie_below}
 use Rattle.carrier_model.proofs.PlaceLaws.{mini_place, places-to, places-from}
-use Rattle.carrier_model.proofs.ViewLaws.{piece_index}
 
 pub mapped_at : (f : ℕ → ℕ) (c : List ℕ) (i : ℕ) → i < length c → get_or (map f c) i 0 ≡ f (get_or c i 0)
 mapped_at f [] i below = absurd (omega arith)

@@ -1,10 +1,10 @@
 -- What is answered is the one chain, and it is answered wherever there is one.
-use Rattle.std.proofs.Common.{◌≡◌, ◌≢◌, ℕ, zero, suc, ◌+◌, ◌-◌, ◌<◌, ◌≤◌, List, [], ◌∷◌, ◌++◌, length, get_or, Bool, true, false, not, ◌&&◌, ◌||◌, cond, eqb, ltb, refl, sym, ◌∙◌, ap, arith, rules, Ok, Err, ◌⊎◌, inl, inr}
-use Rattle.std.proofs.lemmas.Bool.{ne_eqb, eq-eqb, eqb-true, le-ltb, lt-ltb, ltb-true, ltb-false, cond-true, cond-false, and_parts, and_from, not-true, not_from_false, or_parts, cases_Bool, cases_eq}
-use Rattle.std.specs.List.{list_any, IsDistinct, AllByRecursion}
-use Rattle.carrier_model.specs.Chains.{Chain, Leads, Run, longest, after, member, is_open, word, end_word}
-use Rattle.carrier_model.specs.Chains.{chain_of, chain_end, named_at, stop_reason, FreshChain}
-use Rattle.carrier_model.proofs.ChainLaws.{is_open-cons, opened-cons, after_Leads, is_longest, length-Run, is_open-below}
+use Rattle.std.proofs.Common.{◌≡◌, ℕ, zero, suc, ◌<◌, ◌≤◌, List, [], ◌∷◌, length, true, false, not, ◌||◌, eqb, ltb, refl, sym, ◌∙◌, ap, arith, Ok, inl, inr}
+use Rattle.std.proofs.lemmas.Bool.{ne_eqb, eq-eqb, eqb-true, le-ltb, lt-ltb, ltb-true, ltb-false, cond-true, cond-false, and_parts, not-true, or_parts, cases_Bool, cases_eq}
+use Rattle.std.specs.List.{IsDistinct, AllByRecursion}
+use Rattle.carrier_model.specs.Chains.{Run, longest, after, member, is_open, word, end_word}
+use Rattle.carrier_model.specs.Chains.{chain_of, chain_end, FreshChain}
+use Rattle.carrier_model.proofs.ChainLaws.{opened-cons, after_Leads, length-Run}
 
 -- what is open beside a number is open, and another number
 pub is_open-rest : (b w : ℕ) (e : List ℕ) (n k : ℕ) → is_open b w (n ∷ e) k ≡ true → (eqb n k ≡ false) × (is_open b w e k ≡ true)

@@ -1,10 +1,10 @@
 -- Places of bytes, sector by sector.
-use Rattle.std.proofs.Common.{◌≡◌, ℕ, zero, suc, ◌+◌, ◌-◌, ◌*◌, ◌/◌, ◌%◌, ◌<◌, ◌≤◌, List, [], ◌∷◌, ◌++◌, length, get_or, take, drop, map, Bool, true, false, refl, sym, ◌∙◌, ap, arith, ◌⊎◌, inl, inr, zero-add, add-zero, suc-add, min}
+use Rattle.std.proofs.Common.{◌≡◌, ℕ, zero, suc, ◌+◌, ◌-◌, ◌*◌, ◌/◌, ◌%◌, ◌<◌, ◌≤◌, List, [], ◌∷◌, ◌++◌, length, get_or, take, drop, map, true, refl, sym, ◌∙◌, ap, arith, ◌⊎◌, inl, inr, zero-add, add-zero, suc-add, min}
 use Rattle.std.specs.Prelude.{IsTrue}
 use Rattle.std.specs.List.{range_with_len}
-use Rattle.std.proofs.lemmas.Bool.{or_cases, eqb-true, cases_lt, lt-ltb, ltb-true, and_parts, cases_Bool, false_from_ne_true}
+use Rattle.std.proofs.lemmas.Bool.{or_cases, eqb-true, cases_lt, lt-ltb, ltb-true, and_parts}
 use Rattle.std.proofs.lemmas.List.{map-append, ext_get_or, get_or-take, get_or-drop, length-take, length-drop, length-map}
-use Rattle.std.proofs.lemmas.List.FromFn.{length-range_with_len, get_or-map-range_with_len, length-map-range_with_len}
+use Rattle.std.proofs.lemmas.List.FromFn.{length-range_with_len, get_or-map-range_with_len}
 use Rattle.carrier_model.specs.Sectors.{is_size}
 use Rattle.carrier_model.specs.Streams.{is_piece, place_in, places_of, content, lie_below}
 

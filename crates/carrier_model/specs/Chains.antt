@@ -1,5 +1,5 @@
 -- Chains of sectors, as lists that exist (MS-CFB 2.1, 2.3), and the first fault of one.
-use Rattle.std.specs.Prelude.{◌≡◌, ℕ, zero, suc, ◌<◌, ◌≤◌, List, [], ◌∷◌, ◌++◌, length, get_or, Bool, true, false, not, ◌&&◌, ◌||◌, nat_lt, nat_eq, if◌then◌else◌, Result, Ok, Err}
+use Rattle.std.specs.Prelude.{◌≡◌, ℕ, zero, suc, ◌<◌, ◌≤◌, List, [], ◌∷◌, length, get_or, Bool, true, false, not, ◌&&◌, nat_lt, nat_eq, if◌then◌else◌, Result, Ok, Err}
 use Rattle.std.specs.List.{list_any, IsDistinct, AllByRecursion}
 use Rattle.carrier_model.specs.Trail.{Fault}
 use Rattle.carrier_model.specs.Reasons.{SECTOR_OUT_OF_RANGE, CYCLE, SHARED, SHORT_CHAIN, FILE_TRUNCATED}

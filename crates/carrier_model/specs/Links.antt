@@ -1,5 +1,5 @@
 -- A directory's entries as they are linked (MS-CFB 2.6.4), and the first fault of a walk over them.
-use Rattle.std.specs.Prelude.{◌≡◌, ℕ, zero, suc, ◌+◌, ◌<◌, ◌≤◌, List, [], ◌∷◌, ◌++◌, Bool, true, false, not, ◌&&◌, ◌||◌, nat_lt, nat_le, nat_eq, ◌%◌, if◌then◌else◌, Result, Ok, Err}
+use Rattle.std.specs.Prelude.{◌≡◌, ℕ, zero, suc, ◌+◌, ◌<◌, List, [], ◌∷◌, ◌++◌, Bool, true, false, not, ◌&&◌, ◌||◌, nat_lt, nat_le, nat_eq, ◌%◌, if◌then◌else◌, Result, Ok}
 use Rattle.carrier_model.specs.Trail.{Fault}
 use Rattle.carrier_model.specs.Outcomes.{◌>>=◌, check}
 use Rattle.carrier_model.specs.Reasons.{ENTRY_OUT_OF_RANGE, ENTRY_SHARED, BAD_ENTRY_TYPE, BAD_NAME, STORAGE_TOO_DEEP}

@@ -1,5 +1,5 @@
 -- A compound file up to its mini stream, and the stream of one entry, each with its first fault (MS-CFB 2.2 to 2.6).
-use Rattle.std.specs.Prelude.{ℕ, ◌+◌, ◌*◌, List, [], ◌++◌, length, min, Bool, nat_eq, nat_le, if◌then◌else◌, Result, Ok, Err}
+use Rattle.std.specs.Prelude.{ℕ, ◌+◌, List, [], ◌++◌, length, min, Bool, nat_eq, nat_le, if◌then◌else◌, Result, Ok}
 use Rattle.std.specs.Int.{div_ceil}
 use Rattle.carrier_model.specs.Trail.{Fault}
 use Rattle.carrier_model.specs.Reasons.{BAD_ENTRY_TYPE, FILE_TRUNCATED}

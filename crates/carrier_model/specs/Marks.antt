@@ -1,6 +1,6 @@
 -- Marks of sectors, which stand for the lists that took them.
 use Rattle.std.specs.Prelude.{◌≡◌, ℕ, ◌<◌, List, [], ◌∷◌, length, get_or, set, Bool, true, false, not, ◌&&◌, nat_lt, cond, ◌+◌}
-use Rattle.carrier_model.specs.Chains.{Leads, word, member}
+use Rattle.carrier_model.specs.Chains.{Leads, member}
 
 -- each number of the list marked, in turn
 abbrev pub mark_all : List Bool → List ℕ → List Bool

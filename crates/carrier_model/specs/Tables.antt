@@ -1,5 +1,5 @@
 -- The header and the tables of a compound file, with their first fault (MS-CFB 2.2, 2.3, 2.5).
-use Rattle.std.specs.Prelude.{ℕ, zero, suc, ◌+◌, ◌-◌, ◌*◌, ◌/◌, ◌%◌, List, [], ◌∷◌, ◌++◌, get_or, length, Bool, not, ◌&&◌, nat_lt, nat_le, nat_eq, if◌then◌else◌, Result, Ok, Err, min}
+use Rattle.std.specs.Prelude.{ℕ, zero, suc, ◌+◌, ◌-◌, ◌*◌, ◌/◌, ◌%◌, List, [], ◌∷◌, ◌++◌, get_or, length, Bool, not, ◌&&◌, nat_lt, nat_le, nat_eq, if◌then◌else◌, Result, Ok}
 use Rattle.carrier_model.specs.Trail.{Fault}
 use Rattle.carrier_model.specs.Reasons.{BAD_FILE_SIGNATURE, BAD_VERSION, BAD_HEADER, BAD_FAT_COUNT, SECTOR_OUT_OF_RANGE, CYCLE, SHARED, FILE_TRUNCATED}
 use Rattle.carrier_model.specs.Outcomes.{◌>>=◌, check}

@@ -25,11 +25,7 @@ fn fault(reason: Reason, offset: u64) -> Stop
 /// The entry that a link names, which is marked. EntryOutOfRange or EntryShared at the link, BadEntryType or
 /// StorageTooDeep at the entry's type, BadName at its name's length.
 #[tactic(auto, unfolding(carrier_model::specs::Links::visited))]
-fn visit_entry(
-    sectors: &Sectors<'_>,
-    link: Link,
-    marks: &mut SectorMarks,
-) -> Result<Entry, Stop>
+fn visit_entry(sectors: &Sectors<'_>, link: Link, marks: &mut SectorMarks) -> Result<Entry, Stop>
     requires marks { length marks.old ≡ (directory_of sectors.now).count }
     ensures answer { (seen : List ℕ) → Marks marks.old seen → Gives entry_seen result (visited (directory_of sectors.now) (link_of link) seen) }
     ensures marked { (seen : List ℕ) → Marks marks.old seen → IfOk result (λ e. Marks marks.new (seen ++ link.target ∷ [])) }
@@ -61,12 +57,7 @@ fn visit_entry(
 }
 
 /// Puts off what is to be done after an entry: its left link, its place, its right link, what is below it.
-fn put_off(
-    pending: &mut Vec<Pending>,
-    link: Link,
-    entry: Entry,
-    place: u64,
-) -> Result<(), NoMemory>
+fn put_off(pending: &mut Vec<Pending>, link: Link, entry: Entry, place: u64) -> Result<(), NoMemory>
     requires shallow { entry.kind ≡ 1 → link.depth ≤ 100 }
     requires small { place ≤ 268435456 }
     ensures { OnOk result (pending.new.items ≡ pending.old.items ++ Visit (rust_below link (entry_seen entry) place) ∷ Visit (rust_right link (entry_seen entry) place) ∷ Place (record { parent = link.parent; id = link.target }) ∷ Visit (rust_left link (entry_seen entry) place) ∷ []) }

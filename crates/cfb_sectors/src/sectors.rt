@@ -103,7 +103,10 @@ impl<'a> Sectors<'a> {
         requires { id < entries self.now }
         ensures { entry result ≡ entry_of self.now id }
     {
-        read_entry(self.bytes, entry_place(self.bytes, self.fat.size, &self.directory, id))
+        read_entry(
+            self.bytes,
+            entry_place(self.bytes, self.fat.size, &self.directory, id),
+        )
     }
 
     /// The file offset of an entry's first byte.
@@ -135,12 +138,7 @@ impl<'a> Sectors<'a> {
     /// ShortChain at the field or word that names what may not follow; FileTruncated at the entry's size. After a fault
     /// some sectors stay marked.
     #[tactic(auto, unfolding(carrier_model::specs::Loads::claim_of))]
-    pub fn claim(
-        &mut self,
-        alloc: Global,
-        id: u32,
-        walk: &mut Walk,
-    ) -> Result<StreamView<'a>, Stop>
+    pub fn claim(&mut self, alloc: Global, id: u32, walk: &mut Walk) -> Result<StreamView<'a>, Stop>
         requires { id < entries self.old }
         ensures answer { (long short : List ℕ) → Marks self.old.marks long → Marks self.old.mini_marks short → Gives stream result (stream_claimed self.old id long short) }
         ensures marked { (long short chain : List ℕ) → Marks self.old.marks long → Marks self.old.mini_marks short → chain_claimed self.old id long short ≡ Ok chain → IfOk result (λ _. Marks self.new.marks (long ++ long_part (entry_of self.old id) chain) × Marks self.new.mini_marks (short ++ short_part (entry_of self.old id) chain)) }
@@ -160,7 +158,14 @@ impl<'a> Sectors<'a> {
         } else if entry.size >= LONG {
             view_long(alloc, self.bytes, &self.fat, wish, &mut self.marks, walk)
         } else {
-            view_short(alloc, self.bytes, &self.mini, wish, &mut self.mini_marks, walk)
+            view_short(
+                alloc,
+                self.bytes,
+                &self.mini,
+                wish,
+                &mut self.mini_marks,
+                walk,
+            )
         }
     }
 }

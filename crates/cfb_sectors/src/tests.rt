@@ -4,6 +4,7 @@ use std::alloc::{AllocError, Global};
 use std::test::*;
 
 const FREE: u32 = 0xFFFF_FFFF;
+
 const END: u32 = 0xFFFF_FFFE;
 
 /// Writes a number in four bytes.
