@@ -30,8 +30,8 @@ gives_lawful a = record {
 pub field_lawful : (n reason : ℕ) → Lawful (field n reason)
 field_lawful n reason = record {
   one = λ at a b s t x y p q e. (
-    let same : t ≡ s = same_front s t x y (p.1 ∙ sym q.1) e in
-    (q.0 ∙ same ∙ sym p.0, same));
+      let same : t ≡ s = same_front s t x y (p.1 ∙ sym q.1) e in
+      (q.0 ∙ same ∙ sym p.0, same));
   single = λ at bytes g h p q. same_faults reason at g h p.1 q.1;
   apart = λ at a s x g p q. omega (arith, p.1, q.0, length-append s x);
 }
@@ -40,11 +40,11 @@ module _ {X Y : Type 0} (f : Form X) (next : X → Form Y) (lf : Lawful f) (ln :
   then_one : (at : ℕ) (a b : Y) (s t x y : List ℕ) → InTurn f next at a s → InTurn f next at b t → s ++ x ≡ t ++ y → (b ≡ a) × (t ≡ s)
   then_one at a b s t x y p q e =
       let whole : p.front ++ (p.back ++ x) ≡ q.front ++ (q.back ++ y) =
-          sym (ap (λ (z : List ℕ). z ++ x) p.parts ∙ append_assoc p.front p.back x) ∙ e ∙ (ap (λ (z : List ℕ). z ++ y) q.parts ∙ append_assoc q.front q.back y) in
+      sym (ap (λ (z : List ℕ). z ++ x) p.parts ∙ append_assoc p.front p.back x) ∙ e ∙ (ap (λ (z : List ℕ). z ++ y) q.parts ∙ append_assoc q.front q.back y) in
       let o = lf.one at p.x q.x p.front q.front (p.back ++ x) (q.back ++ y) p.first q.first whole in
       let behind : p.back ++ x ≡ q.back ++ y = same_back p.front q.front (p.back ++ x) (q.back ++ y) o.1 whole in
       let there : (next p.x).spells (at + length p.front) b q.back =
-          subst (λ (z : X). (next z).spells (at + length p.front) b q.back) o.0 (subst (λ (z : List ℕ). (next q.x).spells (at + length z) b q.back) o.1 q.second) in
+      subst (λ (z : X). (next z).spells (at + length p.front) b q.back) o.0 (subst (λ (z : List ℕ). (next q.x).spells (at + length z) b q.back) o.1 q.second) in
       let r = (ln p.x).one (at + length p.front) a b p.back q.back x y p.second there behind in
       (r.0, q.parts ∙ ap (λ (z : List ℕ). z ++ q.back) o.1 ∙ ap (λ (z : List ℕ). p.front ++ z) r.1 ∙ sym p.parts)
 
@@ -55,8 +55,8 @@ module _ {X Y : Type 0} (f : Form X) (next : X → Form Y) (lf : Lawful f) (ln :
       let o = lf.one at p.x q.x p.front q.front p.rest q.rest p.first q.first whole in
       let rest : p.rest ≡ q.rest = same_back p.front q.front p.rest q.rest o.1 whole in
       let there : (next p.x).fails (at + length p.front) p.rest h =
-          subst (λ (z : List ℕ). (next p.x).fails (at + length p.front) z h) (sym rest)
-            (subst (λ (z : X). (next z).fails (at + length p.front) q.rest h) o.0 (subst (λ (z : List ℕ). (next q.x).fails (at + length z) q.rest h) o.1 q.fails)) in
+      subst (λ (z : List ℕ). (next p.x).fails (at + length p.front) z h) (sym rest)
+      (subst (λ (z : X). (next z).fails (at + length p.front) q.rest h) o.0 (subst (λ (z : List ℕ). (next q.x).fails (at + length z) q.rest h) o.1 q.fails)) in
       (ln p.x).single (at + length p.front) p.rest g h p.fails there
 
   then_single : (at : ℕ) (bytes : List ℕ) (g h : Fault) → (f.fails at bytes g ⊎ FailsNext f next at bytes g) → (f.fails at bytes h ⊎ FailsNext f next at bytes h) → h ≡ g
@@ -74,8 +74,8 @@ module _ {X Y : Type 0} (f : Form X) (next : X → Form Y) (lf : Lawful f) (ln :
       let o = lf.one at p.x q.x p.front q.front (p.back ++ x) q.rest p.first q.first whole in
       let rest : p.back ++ x ≡ q.rest = same_back p.front q.front (p.back ++ x) q.rest o.1 whole in
       let there : (next p.x).fails (at + length p.front) (p.back ++ x) g =
-          subst (λ (z : List ℕ). (next p.x).fails (at + length p.front) z g) (sym rest)
-            (subst (λ (z : X). (next z).fails (at + length p.front) q.rest g) o.0 (subst (λ (z : List ℕ). (next q.x).fails (at + length z) q.rest g) o.1 q.fails)) in
+      subst (λ (z : List ℕ). (next p.x).fails (at + length p.front) z g) (sym rest)
+      (subst (λ (z : X). (next z).fails (at + length p.front) q.rest g) o.0 (subst (λ (z : List ℕ). (next q.x).fails (at + length z) q.rest g) o.1 q.fails)) in
       (ln p.x).apart (at + length p.front) a p.back x g p.second there
 
   pub then_lawful : Lawful (and_then f next)
@@ -107,8 +107,8 @@ module _ {X : Type 0} (f : Form X) (ok : X → Bool) (reason : ℕ) (lf : Lawful
 pub placed_lawful : {X : Type 0} (f : Form X) → Lawful f → Lawful (placed f)
 placed_lawful {X} f lf = record {
   one = λ at a b s t x y p q e. (
-    let o = lf.one at a.1 b.1 s t x y p.1 q.1 e in
-    (same_pair a b (q.0 ∙ sym p.0) o.0, o.1));
+      let o = lf.one at a.1 b.1 s t x y p.1 q.1 e in
+      (same_pair a b (q.0 ∙ sym p.0) o.0, o.1));
   single = lf.single;
   apart = λ at a s x g p q. lf.apart at a.1 s x g p.1 q;
 }

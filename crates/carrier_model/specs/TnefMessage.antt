@@ -163,9 +163,9 @@ abbrev pub message_by : List Read → Message
 message_by reads =
     let own = filter (λ r. is_message_id r.0.id) reads in
     message
-      (joined (flat_map (λ r. props_in r.1.gift) own) (derived own))
-      (flat_map (λ r. recipients_in r.1.gift) own)
-      (attachments_from (map attached_by (groups (filter (λ r. is_attachment_id r.0.id) reads))))
+    (joined (flat_map (λ r. props_in r.1.gift) own) (derived own))
+    (flat_map (λ r. recipients_in r.1.gift) own)
+    (attachments_from (map attached_by (groups (filter (λ r. is_attachment_id r.0.id) reads))))
 
 abbrev pub meaning_by : List Read → Meaning
 meaning_by reads = record { message = message_by reads; passed = flat_map (λ r. r.1.passed) reads }

@@ -8,11 +8,7 @@ mod tnef_laws;
 
 pub use file_laws::{chains_are_exact, links_are_exact, the_list_is_longest};
 pub use laws::{
-<<<<<<< ours
     acceptance_is_exact, attributes_are_exact, canonical_means_the_message, keys_are_ordered,
     lists_are_exact, messages_are_exact,
-=======
-    attributes_are_exact, chains_are_exact, keys_are_ordered, links_are_exact, the_list_is_longest,
->>>>>>> theirs
 };
 pub use tnef_laws::{property_lists_are_exact, recipient_lists_are_exact, tnef_messages_are_exact};

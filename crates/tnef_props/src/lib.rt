@@ -13,3 +13,6 @@ mod values;
 
 pub use list::read_list;
 pub use object::{Object, ReadList};
+
+#[cfg(test)]
+mod tests;

@@ -1,0 +1,73 @@
+use crate::read_list;
+use carrier_io::{Fault, PassedList, Reason, Stop};
+use prop_names::{Key, Name};
+use prop_values::{Kind, Part, Value};
+use std::test::*;
+
+/// A list of one MultipleString, id 1234: `A` and the empty text, each with its null.
+const TWO_TEXTS: [u8; 28] = [
+    1, 0, 0, 0, 0x1f, 0x10, 0x34, 0x12, 2, 0, 0, 0, 4, 0, 0, 0, 0x41, 0, 0, 0, 2, 0, 0, 0, 0, 0, 0,
+    0,
+];
+
+/// A list of one Integer32 of value 7, named by a number in a set, with the id 8765.
+const NAMED: [u8; 36] = [
+    1, 0, 0, 0, 3, 0, 0x65, 0x87, 2, 0x20, 6, 0, 0, 0, 0, 0, 0xc0, 0, 0, 0, 0, 0, 0, 0x46, 0, 0, 0,
+    0, 0x0d, 0x82, 0, 0, 7, 0, 0, 0,
+];
+
+#[test]
+fn lists_are_read(rt: HostRuntime) -> Result<(), Fail> {
+    let alloc = rt.alloc();
+    let mut passed = PassedList::new(alloc);
+    let texts = read_list(alloc, &TWO_TEXTS, 0, 0, Part::Top, &mut passed)
+        .ok()
+        .ok_or("a list")?;
+    assert_eq!(rt; (texts.props.len(), texts.end), (1, 28));
+    match &texts.props.get(0).value {
+        Value::Parts { kind, list } => {
+            assert_eq!(rt; (*kind, list.len()), (Kind::MultipleString, 2));
+            assert_eq!(rt; *list.get(0), [0x41, 0].as_slice());
+            assert_eq!(rt; list.get(1).len(), 0);
+        }
+        _ => return Err("texts".into()),
+    }
+    let named = read_list(alloc, &NAMED, 0, 0, Part::Top, &mut passed)
+        .ok()
+        .ok_or("a list")?;
+    match &named.props.get(0).key {
+        Key::Named(Name::Number { number, .. }) => assert_eq!(rt; *number, 0x820d),
+        _ => return Err("a name".into()),
+    }
+    assert_eq!(rt; passed.len(), 0);
+    Ok(())
+}
+
+#[test]
+fn faults_of_lists(rt: HostRuntime) -> Result<(), Fail> {
+    let alloc = rt.alloc();
+    let mut other_kind = NAMED;
+    other_kind[24] = 2;
+    let double = [
+        2, 0, 0, 0, 3, 0, 0x17, 0, 1, 0, 0, 0, 3, 0, 0x17, 0, 2, 0, 0, 0,
+    ];
+    let mut object = [0u8; 32];
+    object[0] = 1;
+    object[4..8].copy_from_slice(&[0x0d, 0, 1, 0x37]);
+    object[8] = 1;
+    object[12] = 15;
+    let table = [
+        (&other_kind[..], Reason::BadNameKind, 73),
+        (&double[..], Reason::DuplicateListProperty, 61),
+        (&object[..], Reason::BadSize, 61),
+        (&TWO_TEXTS[..27], Reason::ListTruncated, 75),
+    ];
+    for (bytes, reason, offset) in table {
+        let mut passed = PassedList::new(alloc);
+        match read_list(alloc, bytes, 0, 49, Part::Attachment, &mut passed) {
+            Err(Stop::Fault(g)) => assert_eq!(rt; g, Fault { reason, offset }),
+            _ => return Err("a fault".into()),
+        }
+    }
+    Ok(())
+}
