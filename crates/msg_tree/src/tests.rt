@@ -126,6 +126,9 @@ fn every_call<B: Blob>(
 ) -> Result<Tree<Vec<u8>>, Fail> {
     let tree = Tree::new(message).ok().ok_or("a tree")?;
     let names = names(alloc, &tree).ok().ok_or("two names")?;
+    let as_msg = fits_msg(&tree, &names);
+    let as_tnef = fits_tnef(&tree, &names);
+    assert_eq!(rt; (as_msg, as_tnef), (None, None));
     let copy = copy_owned(alloc, &tree).ok().ok_or("a copy")?;
     assert!(rt; same(&tree, &copy));
     assert_eq!(rt; tree.top().attachments.len(), 2);
@@ -138,8 +141,6 @@ fn every_call<B: Blob>(
         }),
         Some(0)
     );
-    assert_eq!(rt; fits_msg(&tree, &names), None);
-    assert_eq!(rt; fits_tnef(&tree, &names), None);
     let expected = Counts {
         messages: 2,
         recipients: 1,

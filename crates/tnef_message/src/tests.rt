@@ -21,6 +21,6 @@ fn a_stream_is_read_and_written(rt: HostRuntime) -> Result<(), Fail> {
         .ok()
         .ok_or("memory")?;
     plan.write(&mut sink).ok().ok_or("room")?;
-    assert_eq!(rt; sink.bytes(), &STREAM);
+    assert_eq!(rt; sink.bytes(), STREAM.as_slice());
     Ok(())
 }

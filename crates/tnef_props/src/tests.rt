@@ -35,6 +35,7 @@ fn lists_are_read(rt: HostRuntime) -> Result<(), Fail> {
     let named = read_list(alloc, &NAMED, 0, 0, Part::Top, &mut passed)
         .ok()
         .ok_or("a list")?;
+    assert_eq!(rt; named.props.len(), 1);
     match &named.props.get(0).key {
         Key::Named(Name::Number { number, .. }) => assert_eq!(rt; *number, 0x820d),
         _ => return Err("a name".into()),
