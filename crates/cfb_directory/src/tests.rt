@@ -35,7 +35,7 @@ fn small_file(alloc: Global) -> Result<Vec<u8>, AllocError> {
         (520, END),
     ];
     // The kind and the name's length, and the left, right and child link.
-    let entries = [
+    let entries: [(u16, u32, u32, u32, u32); 6] = [
         (1024, 0x0105_0016, FREE, FREE, 1),
         (1152, 0x0101_0028, FREE, 5, 3),
         (1280, 0x0102_0028, FREE, FREE, FREE),
@@ -47,10 +47,10 @@ fn small_file(alloc: Global) -> Result<Vec<u8>, AllocError> {
         put(&mut file, at, value);
     }
     for (at, kind, left, right, child) in entries {
-        put(&mut file, at + 64, kind);
-        put(&mut file, at + 68, left);
-        put(&mut file, at + 72, right);
-        put(&mut file, at + 76, child);
+        put(&mut file, at.wrapping_add(64), kind);
+        put(&mut file, at.wrapping_add(68), left);
+        put(&mut file, at.wrapping_add(72), right);
+        put(&mut file, at.wrapping_add(76), child);
     }
     Ok(file)
 }
