@@ -23,6 +23,7 @@ pub mod Moments
 pub mod Outcomes
 pub mod Places
 pub mod Reasons
+pub mod SampleTrees
 pub mod Sectors
 pub mod Sorted
 pub mod Streams
@@ -34,4 +35,6 @@ pub mod TnefMessage
 pub mod Totals
 pub mod Trail
 pub mod Tree
+pub mod TreeTexts
+pub mod ValueTexts
 pub mod Values

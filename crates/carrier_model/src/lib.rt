@@ -4,6 +4,7 @@
 
 mod file_laws;
 mod laws;
+mod text_rows;
 mod tnef_laws;
 
 pub use file_laws::{chains_are_exact, links_are_exact, the_list_is_longest};
@@ -11,4 +12,5 @@ pub use laws::{
     acceptance_is_exact, attributes_are_exact, canonical_means_the_message, keys_are_ordered,
     lists_are_exact, messages_are_exact,
 };
+pub use text_rows::{texts_of_one_property, the_first_sample};
 pub use tnef_laws::{property_lists_are_exact, recipient_lists_are_exact, tnef_messages_are_exact};
