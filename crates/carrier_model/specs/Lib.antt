@@ -6,7 +6,9 @@ pub mod Entities
 pub mod Entries
 pub mod Envelope
 pub mod EnvelopeText
+pub mod Files
 pub mod Grammar
+pub mod Holds
 pub mod Items
 pub mod Jobs
 pub mod KeyTexts
