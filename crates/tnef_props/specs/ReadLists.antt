@@ -15,6 +15,11 @@ is_attachment Embedded = false
 is_attachment Recipient = false
 is_attachment Attachment = true
 
+-- what was passed over grew by some things
+pub record Grows (old new : List (Bool × ℕ × ℕ)) : Type 0 where
+  pub more : List (Bool × ℕ × ℕ)
+  pub grown : new ≡ old ++ more
+
 -- the plain list, with what was passed over
 abbrev pub list_seen : ReadList → List (Bool × ℕ × ℕ) → PropList
 list_seen x more = record { props = x.props; object = option_map object_of x.object; passed = more }

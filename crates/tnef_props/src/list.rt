@@ -6,7 +6,7 @@ ghost use Rattle.carrier_model.specs.Values as plain;
 ghost use Rattle.carrier_model.specs.Sorted.{with_element};
 ghost use Rattle.carrier_io.specs.Reads.{OnFault, FaultOnly};
 ghost use Rattle.carrier_model.specs.Grammar.{Means};
-ghost use Rattle.tnef_props.specs.ReadLists.{IsListOf, is_attachment};
+ghost use Rattle.tnef_props.specs.ReadLists.{Grows, IsListOf, is_attachment};
 ghost use Rattle.prop_values.specs.Ends.{HasPairOf};
 ghost use Rattle.tnef_props.specs.Meaning.{item_of, object_of};
 ghost use Rattle.tnef_props.specs.Steps.{Takes, Refuses};
@@ -47,6 +47,7 @@ fn gather<'a>(
 ) -> Result<Gathered<'a>, Stop>
     ensures found { IfOk result (λ x. (more : List (Bool × ℕ × ℕ)) × Takes (lists.prop_list in_attachment) from.entry (record { props = x.0; object = option_map object_of x.1; passed = more }) x.2 × (passed.new ≡ passed.old ++ more)) }
     ensures fault { IfErr result (Refuses (lists.prop_list in_attachment) from.entry) }
+    ensures kept { OnErr result (Grows passed.old passed.new) }
 {
     let (count, mut rest) = word(from)?;
     let mut props = Props::new(alloc);
@@ -88,7 +89,7 @@ fn is_of_attachment(part: Part) -> bool
 
 /// Reads the list at the place `from` of the bytes, whose first byte is at the offset `at` of the input. A fault is
 /// the first of the list, by its offset in the input. What is passed over is added to `passed`, after a refusal a
-/// part of it. [MS-OXTNEF 2.1.3.4]
+/// part of it, and nothing that was there is lost. [MS-OXTNEF 2.1.3.4]
 pub fn read_list<'a>(
     alloc: Global,
     bytes: &'a [u8],
@@ -101,6 +102,7 @@ pub fn read_list<'a>(
     requires room { at + length bytes.now ≤ 0x1000_0000 }
     ensures found { IfOk result (IsListOf (is_attachment part) bytes.entry.now from at passed.old passed.new) }
     ensures fault { IfErr result (OnFault (FaultOnly (Means (lists.prop_list (is_attachment part)) (at + from) (drop from bytes.entry.now)) ((lists.prop_list (is_attachment part)).fails (at + from) (drop from bytes.entry.now)))) }
+    ensures kept { OnErr result (Grows passed.old passed.new) }
 {
     let (_, list) = bytes.split_at(from);
     let start = Rest {
