@@ -2,10 +2,12 @@ pub mod Attributes
 pub mod Base64
 pub mod Bytes
 pub mod Chains
+pub mod Commands
 pub mod Entities
 pub mod Entries
 pub mod Envelope
 pub mod EnvelopeText
+pub mod FileTrees
 pub mod Files
 pub mod Grammar
 pub mod Holds
@@ -14,6 +16,7 @@ pub mod Jobs
 pub mod KeyTexts
 pub mod Keys
 pub mod KindNames
+pub mod Layout
 pub mod LegacyAttributes
 pub mod Limits
 pub mod Lines
@@ -30,6 +33,7 @@ pub mod Sectors
 pub mod Sorted
 pub mod Streams
 pub mod Tables
+pub mod Targets
 pub mod Tnef
 pub mod TnefCanonical
 pub mod TnefLists
@@ -40,3 +44,5 @@ pub mod Tree
 pub mod TreeTexts
 pub mod ValueTexts
 pub mod Values
+pub mod WrittenMsg
+pub mod WrittenNames

@@ -1,11 +1,12 @@
 -- A tree made from a number, with something of each sort: properties with ids and with names, recipients, attachments
 -- with data, and messages in messages.
-use Rattle.std.specs.Prelude.{ℕ, zero, suc, ◌+◌, ◌-◌, ◌*◌, ◌%◌, List, [], ◌∷◌, ◌++◌, length, map, codes, decimal}
+use Rattle.std.specs.Prelude.{ℕ, zero, suc, ◌+◌, ◌-◌, ◌*◌, ◌%◌, List, [], ◌∷◌, ◌++◌, length, map, replicate, codes, decimal}
 use Rattle.std.specs.List.{flat_map, range_with_len}
 use Rattle.carrier_model.specs.Bytes.{le32, sum16}
 use Rattle.carrier_model.specs.EnvelopeText.{envelope_of}
 use Rattle.carrier_model.specs.KeyTexts.{label_family}
 use Rattle.carrier_model.specs.Keys.{id, named, numbered}
+use Rattle.carrier_model.specs.Layout.{msg_of}
 use Rattle.carrier_model.specs.TnefCanonical.{tnef_of}
 use Rattle.carrier_model.specs.Tree.{Message, message, no_more, attached, nothing, embedded, Attached, attachments_from}
 use Rattle.carrier_model.specs.TreeTexts.{line, counted, count_lines}
@@ -15,6 +16,10 @@ use Rattle.carrier_model.specs.Values.{Prop, number, bytes}
 
 abbrev pub integer32 : ℕ → ℕ → Prop
 integer32 n bits = record { key = id n; value = number 0x0003 bits }
+
+-- a Binary of so many zeros
+abbrev pub zeros_prop : ℕ → ℕ → Prop
+zeros_prop n count = record { key = id n; value = bytes 0x0102 (replicate count 0) }
 
 -- the UTF-16 units of ASCII characters, the low byte first
 abbrev pub wide : List ℕ → List ℕ
@@ -72,11 +77,11 @@ sample_tree n = message (sample_props n) (map sample_recipient (range_with_len 0
 abbrev pub bytes_line : List ℕ → List ℕ → List ℕ
 bytes_line word x = line 0 (counted word (length x) ++ (codes " bytes sum " ++ decimal (sum16 x)))
 
--- the number, the totals of its tree, and of each form of it the length and the sum of its bytes; the .msg file is given
-abbrev pub sample_text_with : ℕ → List ℕ → List ℕ
-sample_text_with n msg =
+-- the number, the totals of its tree, and of each form of it the length and the sum of its bytes
+abbrev pub sample_text : ℕ → List ℕ
+sample_text n =
     line 0 (counted (codes "sample") n)
     ++ (count_lines (sample_tree n)
     ++ (bytes_line (codes "tnef") (tnef_of (sample_tree n))
     ++ (bytes_line (codes "envelope") (envelope_of (tnef_of (sample_tree n)))
-    ++ bytes_line (codes "msg") msg)))
+    ++ bytes_line (codes "msg") (msg_of (sample_tree n)))))

@@ -1,11 +1,7 @@
 //! Texts and samples, computed on small trees.
-ghost use Rattle.std.specs.Prelude.{◌≡◌, ◌++◌, ◌∷◌, List, [], length, codes};
-ghost use Rattle.carrier_model.specs.Bytes.{sum16};
-ghost use Rattle.carrier_model.specs.EnvelopeText.{envelope_of};
-ghost use Rattle.carrier_model.specs.Keys.{id};
-ghost use Rattle.carrier_model.specs.SampleTrees.{sample_tree, integer32};
-ghost use Rattle.carrier_model.specs.TnefCanonical.{tnef_of};
-ghost use Rattle.carrier_model.specs.Totals.{all_properties};
+ghost use Rattle.std.specs.Prelude.{◌≡◌, ◌∷◌, [], codes, Some, None};
+ghost use Rattle.carrier_model.specs.Commands.{command_of, translate, to_msg, sample};
+ghost use Rattle.carrier_model.specs.SampleTrees.{sample_text, integer32};
 ghost use Rattle.carrier_model.specs.Tree.{message, no_more};
 ghost use Rattle.carrier_model.specs.TreeTexts.{show_text, check_text, tnef_stream};
 
@@ -15,11 +11,18 @@ pub fn texts_of_one_property()
     ensures check { check_text tnef_stream (message (integer32 0x0017 2 ∷ []) [] no_more) [] ≡ codes "carrier tnef\nmessages 1\nrecipients 0\nattachments 0\nproperties 1\nnames 0\ndepth 0\n" }
 {}
 
-/// The sample of the number 0: its properties, and how many bytes its streams have.
+/// The text of the sample of the number 0.
 pub fn the_first_sample()
-    ensures properties { all_properties (sample_tree 0) ≡ 3 }
-    ensures tnef { length (tnef_of (sample_tree 0)) ≡ 127 }
-    ensures tnef_sum { sum16 (tnef_of (sample_tree 0)) ≡ 3099 }
-    ensures envelope { length (envelope_of (tnef_of (sample_tree 0))) ≡ 346 }
-    ensures envelope_sum { sum16 (envelope_of (tnef_of (sample_tree 0))) ≡ 27148 }
+    ensures { sample_text 0 ≡ codes "sample 0\nmessages 1\nrecipients 0\nattachments 0\nproperties 3\nnames 0\ndepth 0\ntnef 127 bytes sum 3099\nenvelope 346 bytes sum 27148\nmsg 3072 bytes sum 14283\n" }
+{}
+
+/// Words that are commands, and words that are not.
+pub fn commands_by_their_words()
+    ensures one { command_of (codes "to-msg" ∷ []) ≡ Some (translate to_msg) }
+    ensures two { command_of (codes "sample" ∷ codes "5000" ∷ []) ≡ Some (sample 5000) }
+    ensures zero { command_of (codes "sample" ∷ codes "0" ∷ []) ≡ Some (sample 0) }
+    ensures none { command_of [] ≡ None }
+    ensures more { command_of (codes "to-msg" ∷ codes "x" ∷ []) ≡ None }
+    ensures leading { command_of (codes "sample" ∷ codes "007" ∷ []) ≡ None }
+    ensures greater { command_of (codes "sample" ∷ codes "5001" ∷ []) ≡ None }
 {}

@@ -4,18 +4,6 @@ use Rattle.std.specs.Fmt.{digits}
 use Rattle.carrier_model.specs.Base64.{alphabet, base64_text}
 use Rattle.carrier_model.specs.EnvelopeText.{version_line, type_line, encoding_line, disposition_line, envelope_head, text_lines, body_lines, envelope_of}
 
-pub returns-clause-tnef : goal.returns-clause-tnef
-unfolding digits
-returns-clause-tnef c = refl
-
-pub returns-clause-tnef_sum : goal.returns-clause-tnef_sum
-unfolding digits
-returns-clause-tnef_sum c = refl
-
-pub returns-clause-envelope : goal.returns-clause-envelope
+pub returns : goal.returns
 unfolding digits alphabet base64_text version_line type_line encoding_line disposition_line envelope_head text_lines body_lines envelope_of
-returns-clause-envelope c = refl
-
-pub returns-clause-envelope_sum : goal.returns-clause-envelope_sum
-unfolding digits alphabet base64_text version_line type_line encoding_line disposition_line envelope_head text_lines body_lines envelope_of
-returns-clause-envelope_sum c = refl
+returns c = refl
