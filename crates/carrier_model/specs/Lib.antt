@@ -17,6 +17,7 @@ pub mod KeyTexts
 pub mod Keys
 pub mod KindNames
 pub mod Layout
+pub mod LayoutHolds
 pub mod LegacyAttributes
 pub mod Limits
 pub mod Lines
@@ -27,7 +28,9 @@ pub mod Marks
 pub mod Moments
 pub mod Outcomes
 pub mod Places
+pub mod ReasonNames
 pub mod Reasons
+pub mod ReportTexts
 pub mod SampleTrees
 pub mod Sectors
 pub mod Sorted

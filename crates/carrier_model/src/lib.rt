@@ -17,5 +17,7 @@ pub use msg_rows::{
     canonical_tnef_of_small_messages, the_entry_of_one_property, the_file_of_an_empty_message,
     the_files_at_the_cutoff, the_least_table, the_map_of_one_name,
 };
-pub use text_rows::{commands_by_their_words, texts_of_one_property, the_first_sample};
+pub use text_rows::{
+    commands_by_their_words, lines_of_ends, texts_of_one_property, the_first_sample,
+};
 pub use tnef_laws::{property_lists_are_exact, recipient_lists_are_exact, tnef_messages_are_exact};

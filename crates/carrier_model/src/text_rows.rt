@@ -1,6 +1,8 @@
 //! Texts and samples, computed on small trees.
 ghost use Rattle.std.specs.Prelude.{◌≡◌, ◌∷◌, [], codes, Some, None};
 ghost use Rattle.carrier_model.specs.Commands.{command_of, translate, to_msg, sample};
+ghost use Rattle.carrier_model.specs.Limits.{too_many_recipients};
+ghost use Rattle.carrier_model.specs.ReportTexts.{report_text, refused, unfit, done};
 ghost use Rattle.carrier_model.specs.SampleTrees.{sample_text, integer32};
 ghost use Rattle.carrier_model.specs.Tree.{message, no_more};
 ghost use Rattle.carrier_model.specs.TreeTexts.{show_text, check_text, tnef_stream};
@@ -25,4 +27,11 @@ pub fn commands_by_their_words()
     ensures more { command_of (codes "to-msg" ∷ codes "x" ∷ []) ≡ None }
     ensures leading { command_of (codes "sample" ∷ codes "007" ∷ []) ≡ None }
     ensures greater { command_of (codes "sample" ∷ codes "5001" ∷ []) ≡ None }
+{}
+
+/// The lines of some ends.
+pub fn lines_of_ends()
+    ensures refused { report_text (refused (63, 61)) ≡ codes "refused 63 BadSum at 61\n" }
+    ensures unfit { report_text (unfit (too_many_recipients 2049)) ≡ codes "unfit Recipients 2049\n" }
+    ensures done { report_text done ≡ [] }
 {}
