@@ -14,6 +14,7 @@ pub mod Items
 pub mod Jobs
 pub mod Lines
 pub mod Lists
+pub mod LoadedLaws
 pub mod MarkLaws
 pub mod Messages
 pub mod MiniLaws
@@ -27,6 +28,7 @@ pub mod PlaceLaws
 pub mod Reading
 pub mod SortedLists
 pub mod Stream
+pub mod TableLaws
 pub mod Tnef
 pub mod TnefLists
 pub mod TnefMessage

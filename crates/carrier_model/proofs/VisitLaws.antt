@@ -48,7 +48,7 @@ bind_same : {A B : Type 0} (r : Result A Fault) (f g : A → Result B Fault) →
 bind_same (Ok a) f g h = h a refl
 bind_same (Err e) f g h = refl
 
-check_ok : {B : Type 0} (t : Bool) (r o : ℕ) (f : Unit {0} → Result B Fault) (y : B) → (check t r o >>= f) ≡ Ok y → (t ≡ true) × (f tt ≡ Ok y)
+pub check_ok : {B : Type 0} (t : Bool) (r o : ℕ) (f : Unit {0} → Result B Fault) (y : B) → (check t r o >>= f) ≡ Ok y → (t ≡ true) × (f tt ≡ Ok y)
 check_ok true r o f y h = (refl, h)
 check_ok false r o f y h = absurd (cc)
 
@@ -103,7 +103,7 @@ visit_whole d link seen other =
     ∙ (cond-false (eqb link.target no_link) (Ok leaf) (body (visit d.count d) d link seen) (ne_eqb link.target no_link other)
     ∙ body_same (visit d.count d) (visit (suc d.count) d) d link seen (λ l s fewer. sym (fuel_more d.count d l s (omega (arith, unseen-le d.count seen)))))
 
-bind_ok : {A B : Type 0} (r : Result A Fault) (f : A → Result B Fault) (y : B) → (r >>= f) ≡ Ok y → (x : A) × (r ≡ Ok x) × (f x ≡ Ok y)
+pub bind_ok : {A B : Type 0} (r : Result A Fault) (f : A → Result B Fault) (y : B) → (r >>= f) ≡ Ok y → (x : A) × (r ≡ Ok x) × (f x ≡ Ok y)
 bind_ok (Ok x) f y h = (x, refl, h)
 bind_ok (Err e) f y h = absurd (cc)
 
@@ -114,11 +114,11 @@ ok_links : (t u : Links) → ok_is t ≡ ok_is u → t ≡ u
 unfolding ok_is
 ok_links t u h = cc
 
-AreNew-append : (seen xs ys : List ℕ) → AreNew seen xs → AreNew (seen ++ xs) ys → AreNew seen (xs ++ ys)
+pub AreNew-append : (seen xs ys : List ℕ) → AreNew seen xs → AreNew (seen ++ xs) ys → AreNew seen (xs ++ ys)
 AreNew-append seen [] ys h k = rw append-nil at k
 AreNew-append seen (x ∷ xs) ys h k = (h.0, AreNew-append (seen ++ x ∷ []) xs ys h.1 (rw (append_assoc seen (x ∷ []) xs) k))
 
-AreNew-split : (seen xs ys : List ℕ) → AreNew seen (xs ++ ys) → AreNew seen xs × AreNew (seen ++ xs) ys
+pub AreNew-split : (seen xs ys : List ℕ) → AreNew seen (xs ++ ys) → AreNew seen xs × AreNew (seen ++ xs) ys
 AreNew-split seen [] ys h = (tt, rw append-nil h)
 AreNew-split seen (x ∷ xs) ys h =
     let parts = AreNew-split (seen ++ x ∷ []) xs ys h.1 in
@@ -149,7 +149,7 @@ visit-sound (suc k) d link seen t enough is =
           rw (← same) ((refl, here.0, here.2, l.0, r.0, c.0), (here.1, AreNew-append s1 (ids pl.0) (ids pr.0 ++ ids pc.0) l.1 (AreNew-append (s1 ++ ids pl.0) (ids pr.0) (ids pc.0) r.1 c.1)))
     ]
 
-visited-from : (d : Directory) (link : Link) (seen : List ℕ) → link.target < d.count → member link.target seen ≡ false → IsChild (d.entry link.target) link.depth → visited d link seen ≡ Ok (d.entry link.target)
+pub visited-from : (d : Directory) (link : Link) (seen : List ℕ) → link.target < d.count → member link.target seen ≡ false → IsChild (d.entry link.target) link.depth → visited d link seen ≡ Ok (d.entry link.target)
 unfolding visited
 visited-from d link seen here fresh child = rw (lt-ltb link.target d.count here, fresh, child.typed, child.named, child.shallow) refl
 

@@ -6,7 +6,7 @@ use Rattle.std.specs.Int.{div_ceil}
 use Rattle.carrier_model.specs.Chains.{Chain}
 use Rattle.carrier_model.specs.Entries.{Entry}
 use Rattle.carrier_model.specs.Files.{Children, none, storage, stream, Files, Tag, folded, directory_in, first_link, stream_ids, files_of}
-use Rattle.carrier_model.specs.Links.{Links, Linked, ids}
+use Rattle.carrier_model.specs.Links.{Directory, Links, Linked, ids}
 use Rattle.carrier_model.specs.Loads.{Table, Mini, Loaded, no_mini, chain_bound, mini_bound, taken_by, long_part, short_part}
 use Rattle.carrier_model.specs.Sectors.{sector_start, whole_count, u32_of, table_words}
 use Rattle.carrier_model.specs.Streams.{places_of, starts_of, mini_offsets, lie_below}
@@ -23,7 +23,7 @@ difat_place z L i = if nat_eq i 0 then 68 else sector_start z (get_or L (i - 1) 
 -- the DIFAT's sectors, and the table with the sectors that hold it
 pub record IsTable (z : ℕ) (b : List ℕ) (f : ℕ) (difat : List ℕ) (t : Table) : Type 0 where
   pub difat_length : length difat ≡ difat_count z f
-  pub difat_named : difat ≡ map (λ i. u32_of b (difat_place z difat i)) (range_with_len 0 (length difat))
+  pub difat_named : (i : ℕ) → i < length difat → get_or difat i 0 ≡ u32_of b (difat_place z difat i)
   pub named : t.sectors ≡ map (λ i. u32_of b (fat_place z difat i)) (range_with_len 0 f)
   pub whole : AreWhole z b (difat ++ t.sectors)
   pub apart : IsDistinct nat_eq (difat ++ t.sectors)
@@ -76,25 +76,36 @@ HaveNames none = Unit {0}
 HaveNames (storage t below rest) = AreApart (child_names below) × HaveNames below × HaveNames rest
 HaveNames (stream t bytes rest) = HaveNames rest
 
--- The file holds these files. loaded has the DIFAT's sectors, the table, the directory's chain, the mini FAT and the
--- mini stream; links are the directory's entries as they are linked; chain gives each stream's chain.
-pub record Holds (z : ℕ) (b : List ℕ) (files : Files) : Type 0 where
+-- The file has these tables: the DIFAT's sectors, the table, the directory's chain, the mini FAT and the mini stream.
+pub record IsLoaded (z : ℕ) (b : List ℕ) (s : Loaded) : Type 0 where
   pub head : Head
   pub header : header_of z b ≡ Ok head
+  pub table : IsTable z b head.fat_count s.difat s.table
+  pub directory : Chain s.table.words head.directory (chain_bound z b s.table.words) s.directory
+  pub some : 1 ≤ length s.directory
+  pub whole : AreWhole z b s.directory
+  pub root : ((directory_in z b s.directory).entry 0).kind ≡ 5
+  pub mini : IsMini z b s.table head.mini_fat ((directory_in z b s.directory).entry 0) s.mini
+
+-- what the chains of these streams take of the table, and of the mini FAT
+abbrev pub long_parts : Directory → (ℕ → List ℕ) → List ℕ → List ℕ
+long_parts d chain streams = flat_map (λ id. long_part (d.entry id) (chain id)) streams
+
+abbrev pub short_parts : Directory → (ℕ → List ℕ) → List ℕ → List ℕ
+short_parts d chain streams = flat_map (λ id. short_part (d.entry id) (chain id)) streams
+
+-- The file holds these files: links are the directory's entries as they are linked, and chain gives each stream's
+-- chain. No two chains in the table have a sector in common, nor have two in the mini FAT.
+pub record Holds (z : ℕ) (b : List ℕ) (files : Files) : Type 0 where
   pub loaded : Loaded
-  pub table : IsTable z b head.fat_count loaded.difat loaded.table
-  pub directory : Chain loaded.table.words head.directory (chain_bound z b loaded.table.words) loaded.directory
-  pub some : 1 ≤ length loaded.directory
-  pub whole : AreWhole z b loaded.directory
-  pub root : ((directory_in z b loaded.directory).entry 0).kind ≡ 5
-  pub mini : IsMini z b loaded.table head.mini_fat ((directory_in z b loaded.directory).entry 0) loaded.mini
+  pub tables : IsLoaded z b loaded
   pub links : Links
   pub linked : Linked (directory_in z b loaded.directory) 1 ((directory_in z b loaded.directory).entry 0).child links
   pub once : IsDistinct nat_eq (0 ∷ ids links)
   pub chain : ℕ → List ℕ
   pub streams : AllByRecursion (λ id. IsStream z b loaded ((directory_in z b loaded.directory).entry id) (chain id)) (stream_ids (directory_in z b loaded.directory) links)
-  pub apart : IsDistinct nat_eq (taken_by loaded ++ flat_map (λ id. long_part ((directory_in z b loaded.directory).entry id) (chain id)) (stream_ids (directory_in z b loaded.directory) links))
-  pub mini_apart : IsDistinct nat_eq (flat_map (λ id. short_part ((directory_in z b loaded.directory).entry id) (chain id)) (stream_ids (directory_in z b loaded.directory) links))
+  pub apart : IsDistinct nat_eq (taken_by loaded ++ long_parts (directory_in z b loaded.directory) chain (stream_ids (directory_in z b loaded.directory) links))
+  pub mini_apart : IsDistinct nat_eq (short_parts (directory_in z b loaded.directory) chain (stream_ids (directory_in z b loaded.directory) links))
   pub is_tree : files ≡ files_of z b loaded chain links
   pub root_names : AreApart (child_names files.children)
   pub names : HaveNames files.children

@@ -1,6 +1,10 @@
 //! Laws about compound files.
-ghost use Rattle.std.specs.Prelude.{◌≡◌, ◌≤◌, ℕ, List, length, Ok};
+ghost use Rattle.std.specs.Prelude.{◌≡◌, ◌≤◌, ℕ, List, length, Ok, IsTrue, nat_eq};
+ghost use Rattle.std.specs.List.{IsDistinct};
 ghost use Rattle.carrier_model.specs.Chains.{Run, longest, after, end_word, chain_of, FreshChain};
+ghost use Rattle.carrier_model.specs.Holds.{IsLoaded};
+ghost use Rattle.carrier_model.specs.Loads.{Loaded, load_of, taken_by};
+ghost use Rattle.carrier_model.specs.Sectors.{is_size};
 ghost use Rattle.carrier_model.specs.Links.{Directory, Link, Links, Linked, AreNew, ids, links_of, no_link};
 
 /// What is answered of a chain is the one chain, and it is answered wherever there is one.
@@ -20,4 +24,11 @@ pub fn the_list_is_longest()
 pub fn links_are_exact()
     ensures sound { (d : Directory) (link : Link) (seen : List ℕ) (t : Links) → links_of d link seen ≡ Ok t → Linked d link.depth link.target t × AreNew seen (ids t) }
     ensures only { (d : Directory) (link : Link) (seen : List ℕ) (t : Links) → d.count ≤ no_link → Linked d link.depth link.target t → AreNew seen (ids t) → links_of d link seen ≡ Ok t }
+{}
+
+/// What is loaded of a file are its tables, of which no two have a sector in common, and it is loaded wherever there
+/// are such tables.
+pub fn loads_are_exact()
+    ensures sound { (z : ℕ) (b : List ℕ) (s : Loaded) → load_of z b ≡ Ok s → IsLoaded z b s × IsDistinct nat_eq (taken_by s) }
+    ensures only { (z : ℕ) (b : List ℕ) (s : Loaded) → IsTrue (is_size z) → length b ≤ 268435456 → IsLoaded z b s → IsDistinct nat_eq (taken_by s) → load_of z b ≡ Ok s }
 {}
