@@ -1,1 +1,4 @@
 pub mod Stream
+pub mod DayLemmas
+pub mod Words
+pub mod Rows

@@ -2,11 +2,15 @@
 #![tactic(auto)]
 
 mod attributes;
+mod classes;
+mod legacy;
+mod moments;
 mod reading;
 mod sums;
 mod writing;
 
 pub use attributes::{Attribute, Attributes};
+pub use legacy::legacy_prop;
 pub use sums::sum16;
 pub use writing::{attribute_head, write_attribute};
 

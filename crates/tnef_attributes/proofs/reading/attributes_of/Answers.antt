@@ -1,4 +1,4 @@
-use Rattle.std.proofs.Common.{◌≡◌, ◌+◌, ℕ, length, ◌++◌, ◌∷◌, [], ap, ◌∙◌, arith}
+use Rattle.std.proofs.Common.{◌+◌, ℕ, length, ap, ◌∙◌, arith}
 use Rattle.carrier_model.specs.Attributes.{attrs}
 use Rattle.carrier_model.proofs.Items.{Spells-push, behind-push}
 use Rattle.tnef_attributes.specs.Views.{view}
