@@ -1,4 +1,5 @@
 //! Lists that were read, and the Object of an attachment.
+ghost use Rattle.std.specs.Prelude.{◌+◌, ◌≤◌, length};
 
 use prop_values::Props;
 
@@ -7,6 +8,7 @@ use prop_values::Props;
 pub struct Object<'a> {
     pub bytes: &'a [u8],
     pub offset: u64,
+    pub ghost few: { offset + length bytes.now ≤ 0x1000_0000 },
 }
 
 /// A list that was read: its properties, the Object of an attachment, and the place behind the list.
