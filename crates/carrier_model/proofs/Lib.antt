@@ -2,6 +2,10 @@ pub mod Apart
 pub mod Attributes
 pub mod Built
 pub mod Canonical
+pub mod CanonicalKinds
+pub mod CanonicalLists
+pub mod CanonicalTnef
+pub mod CanonicalValues
 pub mod ChainEnds
 pub mod ChainLaws
 pub mod Elements

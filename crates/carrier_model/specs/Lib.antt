@@ -45,6 +45,7 @@ pub mod Totals
 pub mod Trail
 pub mod Tree
 pub mod TreeTexts
+pub mod Trees
 pub mod ValueTexts
 pub mod Values
 pub mod WrittenMsg

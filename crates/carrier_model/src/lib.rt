@@ -20,4 +20,7 @@ pub use msg_rows::{
 pub use text_rows::{
     commands_by_their_words, lines_of_ends, texts_of_one_property, the_first_sample,
 };
-pub use tnef_laws::{property_lists_are_exact, recipient_lists_are_exact, tnef_messages_are_exact};
+pub use tnef_laws::{
+    canonical_lists_mean_themselves, canonical_tnef_means_its_tree, property_lists_are_exact,
+    recipient_lists_are_exact, tnef_messages_are_exact,
+};
