@@ -22,6 +22,9 @@ pub mod LoadedLaws
 pub mod MarkLaws
 pub mod Messages
 pub mod MiniLaws
+pub mod MsgMessage
+pub mod MsgProps
+pub mod NameMap
 pub mod Numbers
 pub mod OneChain
 pub mod Orders
@@ -30,6 +33,7 @@ pub mod Parameters
 pub mod Place
 pub mod PlaceLaws
 pub mod Reading
+pub mod SortedElements
 pub mod SortedLists
 pub mod Stream
 pub mod TableLaws
@@ -37,5 +41,6 @@ pub mod Tnef
 pub mod TnefLists
 pub mod TnefMessage
 pub mod Trees
+pub mod Turns
 pub mod ViewLaws
 pub mod VisitLaws

@@ -24,8 +24,13 @@ pub mod Lines
 pub mod Links
 pub mod Lists
 pub mod Loads
+pub mod Lookups
 pub mod Marks
 pub mod Moments
+pub mod MsgMessage
+pub mod MsgProps
+pub mod MsgValues
+pub mod NameMap
 pub mod Outcomes
 pub mod Places
 pub mod ReasonNames
@@ -46,6 +51,7 @@ pub mod Trail
 pub mod Tree
 pub mod TreeTexts
 pub mod Trees
+pub mod Turns
 pub mod ValueTexts
 pub mod Values
 pub mod WrittenMsg

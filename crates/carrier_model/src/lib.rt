@@ -4,6 +4,7 @@
 
 mod file_laws;
 mod laws;
+mod msg_laws;
 mod msg_rows;
 mod text_rows;
 mod tnef_laws;
@@ -12,6 +13,10 @@ pub use file_laws::{chains_are_exact, links_are_exact, loads_are_exact, the_list
 pub use laws::{
     acceptance_is_exact, attributes_are_exact, canonical_means_the_message, keys_are_ordered,
     lists_are_exact, messages_are_exact,
+};
+pub use msg_laws::{
+    files_mean_one_message, lists_of_storages_are_exact, messages_of_files_are_exact,
+    names_are_exact,
 };
 pub use msg_rows::{
     canonical_tnef_of_small_messages, the_entry_of_one_property, the_file_of_an_empty_message,

@@ -1,0 +1,70 @@
+-- Elements of which no two are equal by an order, and the sorted list of them.
+use Rattle.std.proofs.Common.{◌≡◌, zero, suc, List, [], ◌∷◌, ◌++◌, Bool, true, false, refl, sym, ap, subst, ◌∙◌, arith}
+use Rattle.std.specs.Prelude.{IsPermutation, Contains}
+use Rattle.std.specs.Cmp.{IsTotalOrder}
+use Rattle.std.specs.List.{AllByRecursion, IsDistinct}
+use Rattle.std.specs.Ordering.{ordering_reverse}
+use Rattle.std.specs.declared.cmp.Ordering.{Ordering}
+use Rattle.std.specs.declared.cmp.Ordering.TheVariants.{Less, Equal, Greater}
+use Rattle.std.proofs.lemmas.List.{append-nil}
+use Rattle.std.proofs.lemmas.List.Sorted.{IsPermutation-refl, IsPermutation-sym, IsPermutation-trans, IsPermutation-middle, IsPermutation-append_right}
+use Rattle.std.proofs.lemmas.Map.Keys.{IsDistinct-IsPermutation}
+use Rattle.carrier_model.specs.Sorted.{IsStrictlySorted, choose, with_element, with_elements}
+use Rattle.carrier_model.proofs.SortedLists.{tail_sorted, head_less, in_tail, with_element_sorted, with_element_permutes}
+
+pub every_at : {A : Type 0} (P : A → Type 0) (xs : List A) (y : A) → AllByRecursion P xs → Contains xs y → P y
+every_at P [] y all (k, lt, e) = absurd (omega (arith, lt))
+every_at P (x ∷ xs) y all (zero, lt, e) = subst P e all.0
+every_at P (x ∷ xs) y all (suc k, lt, e) = every_at P xs y all.1 (k, omega (arith, lt), e)
+
+pub every_from : {A : Type 0} (P : A → Type 0) (xs : List A) → ((y : A) → Contains xs y → P y) → AllByRecursion P xs
+every_from P [] f = tt
+every_from P (x ∷ xs) f = (f x (0, omega arith, refl), every_from P xs (λ y c. f y (in_tail x y xs c)))
+
+in_right : {A : Type 0} (xs ys : List A) (y : A) → Contains ys y → Contains (xs ++ ys) y
+in_right [] ys y c = c
+in_right (x ∷ xs) ys y c = in_tail x y (xs ++ ys) (in_right xs ys y c)
+
+-- whether two elements are equal by an order
+abbrev pub equal_by : {A : Type 0} → (A → A → Ordering) → A → A → Bool
+equal_by R x y = choose (R y x) false true false
+
+module _ {A : Type 0} {R : A → A → Ordering} (o : IsTotalOrder R) where
+  pub equal_flips : (x y : A) → equal_by R x y ≡ equal_by R y x
+  equal_flips x y = by (R x y) (R y x) (o.antisymm y x)
+    where
+      by : (a b : Ordering) → b ≡ ordering_reverse a → choose b false true false ≡ choose a false true false
+      by Less b e = rw e refl
+      by Equal b e = rw e refl
+      by Greater b e = rw e refl
+
+  pub sorted_distinct : (m : List A) → IsStrictlySorted R m → IsDistinct (equal_by R) m
+  unfolding IsDistinct
+  sorted_distinct [] s = tt
+  sorted_distinct (x ∷ xs) s = (every_from (λ y. equal_by R x y ≡ false) xs (λ y c. equal_flips x y ∙ ap (λ a. choose a false true false) (head_less o x xs y s c)), sorted_distinct xs (tail_sorted o x xs s))
+
+  -- so is the list of which the sorted one has each element
+  pub permuted_distinct : (l m : List A) → IsPermutation l m → IsStrictlySorted R m → IsDistinct (equal_by R) l
+  permuted_distinct l m p s = IsDistinct-IsPermutation (equal_by R) equal_flips m l (IsPermutation-sym l m p) (sorted_distinct m s)
+
+  not_equal : (x y : A) → equal_by R x y ≡ false → R y x ≡ Equal → ⊥
+  not_equal x y e f = let h : true ≡ false = sym (ap (λ a. choose a false true false) f) ∙ e in cc
+
+  pub with_elements_good : (ps m : List A) → IsStrictlySorted R m → IsDistinct (equal_by R) (ps ++ m) → IsStrictlySorted R (with_elements R m ps) × IsPermutation (ps ++ m) (with_elements R m ps)
+  unfolding IsDistinct
+  with_elements_good [] m s d = (s, IsPermutation-refl m)
+  with_elements_good (p ∷ ps) m s d =
+      let new : (y : A) → Contains m y → R y p ≡ Equal → ⊥ = λ y c e. not_equal p y (every_at (λ z. equal_by R p z ≡ false) (ps ++ m) y d.0 (in_right ps m y c)) e in
+      let more : List A = with_element R m p in
+      let sorted : IsStrictlySorted R more = with_element_sorted o m p s new in
+      let there : IsPermutation (p ∷ (ps ++ m)) (ps ++ more) = IsPermutation-trans (p ∷ (ps ++ m)) (ps ++ p ∷ m) (ps ++ more) (IsPermutation-sym (ps ++ p ∷ m) (p ∷ (ps ++ m)) (IsPermutation-middle ps p m)) (IsPermutation-append_right ps (p ∷ m) more (with_element_permutes o m p s new)) in
+      let rest = with_elements_good ps more sorted (IsDistinct-IsPermutation (equal_by R) equal_flips (p ∷ (ps ++ m)) (ps ++ more) there d) in
+      (rest.0, IsPermutation-trans (p ∷ (ps ++ m)) (ps ++ more) (with_elements R more ps) there rest.1)
+
+  nothing_sorted : IsStrictlySorted R []
+  nothing_sorted i j d lt in_range = absurd (omega (arith, in_range))
+
+  pub elements_good : (ps : List A) → IsDistinct (equal_by R) ps → IsStrictlySorted R (with_elements R [] ps) × IsPermutation ps (with_elements R [] ps)
+  elements_good ps d =
+      let good = with_elements_good ps [] nothing_sorted (subst (IsDistinct (equal_by R)) (sym (append-nil ps)) d) in
+      (good.0, subst (λ (l : List A). IsPermutation l (with_elements R [] ps)) (append-nil ps) good.1)

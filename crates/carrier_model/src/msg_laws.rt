@@ -1,0 +1,32 @@
+//! Laws about .msg files.
+ghost use Rattle.std.specs.Prelude.{◌≡◌, ℕ, List, Ok, Err};
+ghost use Rattle.carrier_model.specs.Files.{Files};
+ghost use Rattle.carrier_model.specs.MsgMessage.{msg_in, FilesMean};
+ghost use Rattle.carrier_model.specs.MsgProps.{Part, Section, MsgProps, props_of};
+ghost use Rattle.carrier_model.specs.MsgValues.{Streams};
+ghost use Rattle.carrier_model.specs.NameMap.{NameStreams, Pair, NamePairs, pairs_of};
+ghost use Rattle.carrier_model.specs.TnefMessage.{Meaning};
+ghost use Rattle.carrier_model.specs.Trail.{IsExact};
+
+/// The names that are answered are the pairs of the file, and they are answered wherever it has them.
+pub fn names_are_exact()
+    ensures sound { (s : NameStreams) (pairs : List Pair) → pairs_of s ≡ Ok pairs → NamePairs s pairs }
+    ensures only { (s : NameStreams) (pairs : List Pair) → NamePairs s pairs → pairs_of s ≡ Ok pairs }
+{}
+
+/// A storage has one property list, or has one first fault.
+pub fn lists_of_storages_are_exact()
+    ensures sound { (part : Part) (pairs : List Pair) (place : ℕ) (streams : Streams) (l : Section) → props_of part pairs place streams ≡ Ok l → MsgProps part pairs streams l }
+    ensures only { (part : Part) (pairs : List Pair) (place : ℕ) (streams : Streams) (l : Section) → MsgProps part pairs streams l → props_of part pairs place streams ≡ Ok l }
+{}
+
+/// The files of a .msg mean one message, or have one first fault.
+pub fn messages_of_files_are_exact()
+    ensures sound { (root : Files) (m : Meaning) → msg_in root ≡ Ok m → FilesMean root m }
+    ensures only { (root : Files) (m : Meaning) → FilesMean root m → msg_in root ≡ Ok m }
+{}
+
+/// Files mean at most one message, or have one first fault, and not both.
+pub fn files_mean_one_message()
+    ensures { (root : Files) → IsExact (FilesMean root) (λ g. msg_in root ≡ Err g) }
+{}
