@@ -8,11 +8,14 @@ pub mod CanonicalTnef
 pub mod CanonicalValues
 pub mod ChainEnds
 pub mod ChainLaws
+pub mod ChildLaws
+pub mod ClaimedLaws
 pub mod Elements
 pub mod Entities
 pub mod EntryLaws
 pub mod EnvelopeText
 pub mod Grammar
+pub mod HoldsLaws
 pub mod Ids
 pub mod Items
 pub mod Jobs

@@ -1,25 +1,23 @@
 -- The tables of a file, read one after another, against the lists that exist.
-use Rattle.std.proofs.Common.{◌≡◌, ℕ, zero, suc, ◌+◌, ◌-◌, ◌*◌, ◌<◌, ◌≤◌, ◌/◌, List, [], ◌∷◌, ◌++◌, length, get_or, map, min, Bool, true, false, not, cond, eqb, ltb, refl, sym, ◌∙◌, ap, subst, arith, Ok, Err, Result, inl, inr}
+use Rattle.std.proofs.Common.{◌≡◌, ℕ, ◌+◌, ◌<◌, ◌≤◌, List, [], ◌++◌, length, Bool, true, false, eqb, refl, sym, ◌∙◌, ap, subst, arith, Ok, Err, Result, inl, inr}
 use Rattle.std.specs.Prelude.{IsTrue}
-use Rattle.std.specs.List.{range_with_len, IsDistinct, AllByRecursion}
+use Rattle.std.specs.List.{IsDistinct, AllByRecursion}
 use Rattle.std.specs.Int.{div_ceil}
-use Rattle.std.proofs.lemmas.Bool.{ne_eqb, eq-eqb, eqb-true, eqb-false, cond-true, cond-false, not-true, ltb-true, lt-ltb, cases_Bool}
-use Rattle.std.proofs.lemmas.List.{append_assoc, append-nil}
+use Rattle.std.proofs.lemmas.Bool.{eq-eqb, eqb-true, eqb-false, cond-true, cond-false, cases_Bool}
 use Rattle.carrier_model.specs.Trail.{Fault}
 use Rattle.carrier_model.specs.Outcomes.{◌>>=◌, check}
 use Rattle.carrier_model.specs.Reasons.{FILE_TRUNCATED, BAD_ENTRY_TYPE}
 use Rattle.carrier_model.specs.Chains.{member, Chain, FreshChain, chain_of, end_word}
-use Rattle.carrier_model.specs.Entries.{Entry, entry_at, entry_place}
-use Rattle.carrier_model.specs.Files.{directory_in}
-use Rattle.carrier_model.specs.Sectors.{is_size, sector_start, sector_count, whole_count, table_words, word_offset}
+use Rattle.carrier_model.specs.Entries.{entry_at, entry_place}
+use Rattle.carrier_model.specs.Sectors.{is_size, sector_count, whole_count, table_words, word_offset}
 use Rattle.carrier_model.specs.Streams.{places_of, starts_of, mini_offsets, lie_below}
-use Rattle.carrier_model.specs.Tables.{Head, header_of, difat_of, difat_count, fat_sectors_of}
+use Rattle.carrier_model.specs.Tables.{header_of, difat_of, difat_count, fat_sectors_of}
 use Rattle.carrier_model.specs.Loads.{Table, Tables, Mini, Loaded, no_mini, chain_bound, mini_bound, tables_of, taken_first, taken_by, long_chain_of, short_chain_of, mini_of, load_of}
-use Rattle.carrier_model.specs.Holds.{AreWhole, IsTable, IsLong, IsShort, HasMini, IsMini, IsLoaded}
+use Rattle.carrier_model.specs.Holds.{AreWhole, IsTable, IsLong, IsShort, HasMini, IsLoaded}
 use Rattle.carrier_model.proofs.Apart.{distinct-append, distinct-split}
 use Rattle.carrier_model.proofs.OneChain.{chain_of-sound, chain_of-only}
 use Rattle.carrier_model.proofs.EntryLaws.{few_entries}
-use Rattle.carrier_model.proofs.TableLaws.{answered, same_answer, table_sound, table_only, difat_of-ok, fat_of-ok}
+use Rattle.carrier_model.proofs.TableLaws.{answered, same_answer, table_sound, table_only}
 use Rattle.carrier_model.proofs.VisitLaws.{bind_ok, check_ok}
 
 abbrev pub AreFresh : List ℕ → List ℕ → Type 0

@@ -1,8 +1,8 @@
 -- The sectors of the DIFAT and of the table, taken one after another, as lists of distinct whole sectors.
-use Rattle.std.proofs.Common.{◌≡◌, ℕ, zero, suc, ◌+◌, ◌-◌, ◌<◌, ◌≤◌, ◌/◌, List, [], ◌∷◌, ◌++◌, length, get_or, map, true, false, not, eqb, ltb, refl, sym, ◌∙◌, ap, arith, Ok, Err, Result, inl, inr}
+use Rattle.std.proofs.Common.{◌≡◌, ℕ, zero, suc, ◌+◌, ◌-◌, ◌<◌, ◌/◌, List, [], ◌∷◌, ◌++◌, length, get_or, map, false, not, eqb, ltb, refl, sym, ◌∙◌, ap, arith, Ok, Result, inl, inr}
 use Rattle.std.specs.Prelude.{IsTrue, if◌then◌else◌}
 use Rattle.std.specs.List.{range_with_len, IsDistinct, AllByRecursion}
-use Rattle.std.proofs.lemmas.Bool.{ne_eqb, eqb-true, not-true, ltb-true, lt-ltb}
+use Rattle.std.proofs.lemmas.Bool.{ne_eqb, not-true, ltb-true, lt-ltb}
 use Rattle.std.proofs.lemmas.List.{append_assoc, append-nil}
 use Rattle.carrier_model.specs.Trail.{Fault}
 use Rattle.carrier_model.specs.Outcomes.{◌>>=◌, check}
@@ -12,7 +12,7 @@ use Rattle.carrier_model.specs.Links.{AreNew}
 use Rattle.carrier_model.specs.Sectors.{is_size, sector_start, sector_count, whole_count, u32_of, table_words}
 use Rattle.carrier_model.specs.Tables.{sector_of, difat_of, difat_count, fat_place, fat_sectors_of}
 use Rattle.carrier_model.specs.Loads.{Table}
-use Rattle.carrier_model.specs.Holds.{AreWhole, difat_place, IsTable}
+use Rattle.carrier_model.specs.Holds.{AreWhole, IsTable}
 use Rattle.carrier_model.proofs.Apart.{distinct-append, distinct-split}
 use Rattle.carrier_model.proofs.PlaceLaws.{size_cases}
 use Rattle.carrier_model.proofs.VisitLaws.{bind_ok, check_ok}

@@ -1,5 +1,5 @@
 -- The storages and streams of a compound file, and the first fault of a whole file (MS-CFB 2.6.4).
-use Rattle.std.specs.Prelude.{ℕ, ◌+◌, ◌-◌, ◌/◌, ◌*◌, List, [], ◌∷◌, ◌++◌, length, map, take, filter, sum, Bool, not, ◌&&◌, nat_eq, if◌then◌else◌, Result, Ok}
+use Rattle.std.specs.Prelude.{ℕ, ◌+◌, ◌-◌, ◌/◌, List, [], ◌∷◌, ◌++◌, length, map, take, filter, sum, Bool, not, ◌&&◌, nat_eq, if◌then◌else◌, Result, Ok}
 use Rattle.std.specs.List.{range_with_len, list_any}
 use Rattle.std.specs.Cmp.Lexicographic.{pointwise}
 use Rattle.std.specs.Char.{to_ascii_lowercase}

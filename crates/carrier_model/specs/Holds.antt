@@ -5,7 +5,7 @@ use Rattle.std.specs.Cmp.Lexicographic.{pointwise}
 use Rattle.std.specs.Int.{div_ceil}
 use Rattle.carrier_model.specs.Chains.{Chain}
 use Rattle.carrier_model.specs.Entries.{Entry}
-use Rattle.carrier_model.specs.Files.{Children, none, storage, stream, Files, Tag, folded, directory_in, first_link, stream_ids, files_of}
+use Rattle.carrier_model.specs.Files.{Children, none, storage, stream, Files, folded, directory_in, stream_ids, files_of}
 use Rattle.carrier_model.specs.Links.{Directory, Links, Linked, ids}
 use Rattle.carrier_model.specs.Loads.{Table, Mini, Loaded, no_mini, chain_bound, mini_bound, taken_by, long_part, short_part}
 use Rattle.carrier_model.specs.Sectors.{sector_start, whole_count, u32_of, table_words}

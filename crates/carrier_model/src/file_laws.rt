@@ -1,10 +1,12 @@
 //! Laws about compound files.
-ghost use Rattle.std.specs.Prelude.{◌≡◌, ◌≤◌, ℕ, List, length, Ok, IsTrue, nat_eq};
+ghost use Rattle.std.specs.Prelude.{◌≡◌, ◌≤◌, ℕ, List, length, Ok, Err, IsTrue, nat_eq};
 ghost use Rattle.std.specs.List.{IsDistinct};
 ghost use Rattle.carrier_model.specs.Chains.{Run, longest, after, end_word, chain_of, FreshChain};
-ghost use Rattle.carrier_model.specs.Holds.{IsLoaded};
+ghost use Rattle.carrier_model.specs.Files.{Files, open_of};
+ghost use Rattle.carrier_model.specs.Holds.{Holds, IsLoaded};
 ghost use Rattle.carrier_model.specs.Loads.{Loaded, load_of, taken_by};
 ghost use Rattle.carrier_model.specs.Sectors.{is_size};
+ghost use Rattle.carrier_model.specs.Trail.{Fault};
 ghost use Rattle.carrier_model.specs.Links.{Directory, Link, Links, Linked, AreNew, ids, links_of, no_link};
 
 /// What is answered of a chain is the one chain, and it is answered wherever there is one.
@@ -31,4 +33,13 @@ pub fn links_are_exact()
 pub fn loads_are_exact()
     ensures sound { (z : ℕ) (b : List ℕ) (s : Loaded) → load_of z b ≡ Ok s → IsLoaded z b s × IsDistinct nat_eq (taken_by s) }
     ensures only { (z : ℕ) (b : List ℕ) (s : Loaded) → IsTrue (is_size z) → length b ≤ 268435456 → IsLoaded z b s → IsDistinct nat_eq (taken_by s) → load_of z b ≡ Ok s }
+{}
+
+/// What is answered of a file are the files that it holds, and they are answered wherever it holds any. So it holds no
+/// others, and none where there is a fault.
+pub fn files_are_exact()
+    ensures sound { (z : ℕ) (b : List ℕ) (f : Files) → open_of z b ≡ Ok f → Holds z b f }
+    ensures only { (z : ℕ) (b : List ℕ) (f : Files) → IsTrue (is_size z) → length b ≤ 268435456 → Holds z b f → open_of z b ≡ Ok f }
+    ensures one { (z : ℕ) (b : List ℕ) (f g : Files) → IsTrue (is_size z) → length b ≤ 268435456 → Holds z b f → Holds z b g → f ≡ g }
+    ensures none { (z : ℕ) (b : List ℕ) (f : Files) (g : Fault) → IsTrue (is_size z) → length b ≤ 268435456 → open_of z b ≡ Err g → Holds z b f → ⊥ }
 {}
