@@ -12,7 +12,7 @@ use Rattle.carrier_model.specs.Outcomes.{mapped}
 use Rattle.carrier_model.specs.Chains.{member, Chain, end_word}
 use Rattle.carrier_model.specs.Entries.{Entry}
 use Rattle.carrier_model.specs.Files.{Children, none, Files, Claim, Opened, directory_in, first_link, all_families, names_of, stream_ids, claims_of, chain_in, files_of, opened_of, open_of}
-use Rattle.carrier_model.specs.Holds.{AreApart, HaveNames, IsStream, IsMini, Holds, child_names, long_parts, short_parts}
+use Rattle.carrier_model.specs.Holds.{AreApart, HaveNames, IsStream, IsMini, IsLoaded, Holds, child_names, long_parts, short_parts}
 use Rattle.carrier_model.specs.Links.{Directory, Links, leaf, node, no_link, ids, is_storage, has_type, below_depth, below_link, links_of, Linked}
 use Rattle.carrier_model.specs.Loads.{Loaded, Mini, load_of, taken_by, chain_bound, mini_bound, long_part, short_part, stream_of}
 use Rattle.carrier_model.specs.Sectors.{is_size, sector_words, table_words}
@@ -119,6 +119,11 @@ mini_few z b s first root h short is =
           omega (arith, words, sectors, few_sectors z b s.table.words h short)
     ]
 
+-- chains have few members
+pub loaded_few : (z : ℕ) (b : List ℕ) (s : Loaded) → IsTrue (is_size z) → length b ≤ 268435456 → IsLoaded z b s → (chain_bound z b s.table.words ≤ end_word) × (mini_bound s.mini ≤ end_word)
+loaded_few z b s h short is =
+    (few_words z b s.table.words h short, mini_few z b s is.head.mini_fat ((directory_in z b s.directory).entry 0) h short is.mini)
+
 -- what is linked is there, and has a type
 pub linked_each : (d : Directory) (depth x : ℕ) (t : Links) → Linked d depth x t → AllByRecursion (λ id. (id < d.count) × (has_type (d.entry id) ≡ true)) (ids t)
 linked_each d depth x leaf h = tt
@@ -176,7 +181,8 @@ holds_opened z b f h short is =
     let had = tree_had d streams 1 (d.entry 0).child t none few is.linked (subst (λ (f : Files). HaveNames f.children) tree is.names) in
     let root = subst AreApart (ap (λ (f : Files). child_names f.children) tree ∙ own_names d streams t) is.root_names in
     let names = names_from d (all_families t) (root, had.0) in
-    let claims = claims_from z b s d is.chain (stream_ids d t) (taken_by s) [] (few_words z b s.table.words h short) (mini_few z b s is.tables.head.mini_fat (d.entry 0) h short is.tables.mini) is.streams is.apart is.mini_apart in
+    let bounds = loaded_few z b s h short is.tables in
+    let claims = claims_from z b s d is.chain (stream_ids d t) (taken_by s) [] bounds.0 bounds.1 is.streams is.apart is.mini_apart in
     let opened : opened_of z b ≡ Ok (record { loaded = s; links = t; claims = claims_with is.chain (stream_ids d t) }) = rw (load, links, names, claims) refl in
     let same = tree_same d (λ id. stream_of z b s (d.entry id) (chain_in (claims_with is.chain (stream_ids d t)) id)) streams t none
     (same_streams d t (chain_in (claims_with is.chain (stream_ids d t))) is.chain (λ id c. stream_of z b s (d.entry id) c) (ids t) (linked_each d 1 (d.entry 0).child t is.linked) (each_member (ids t)) (λ id k. chain_with is.chain (stream_ids d t) id k)) in

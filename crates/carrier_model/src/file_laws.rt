@@ -1,10 +1,11 @@
 //! Laws about compound files.
-ghost use Rattle.std.specs.Prelude.{◌≡◌, ◌≤◌, ℕ, List, length, Ok, Err, IsTrue, nat_eq};
-ghost use Rattle.std.specs.List.{IsDistinct};
-ghost use Rattle.carrier_model.specs.Chains.{Run, longest, after, end_word, chain_of, FreshChain};
+ghost use Rattle.std.specs.Prelude.{◌≡◌, ◌≤◌, ℕ, List, length, Ok, Err, IsTrue, false, nat_eq};
+ghost use Rattle.std.specs.List.{AllByRecursion, IsDistinct};
+ghost use Rattle.carrier_model.specs.Chains.{Run, longest, after, end_word, chain_of, FreshChain, member};
+ghost use Rattle.carrier_model.specs.Entries.{Entry};
 ghost use Rattle.carrier_model.specs.Files.{Files, open_of};
-ghost use Rattle.carrier_model.specs.Holds.{Holds, IsLoaded};
-ghost use Rattle.carrier_model.specs.Loads.{Loaded, load_of, taken_by};
+ghost use Rattle.carrier_model.specs.Holds.{Holds, IsLoaded, IsStream};
+ghost use Rattle.carrier_model.specs.Loads.{Loaded, load_of, taken_by, claim_of, long_part, short_part};
 ghost use Rattle.carrier_model.specs.Sectors.{is_size};
 ghost use Rattle.carrier_model.specs.Trail.{Fault};
 ghost use Rattle.carrier_model.specs.Links.{Directory, Link, Links, Linked, AreNew, ids, links_of, no_link};
@@ -33,6 +34,12 @@ pub fn links_are_exact()
 pub fn loads_are_exact()
     ensures sound { (z : ℕ) (b : List ℕ) (s : Loaded) → load_of z b ≡ Ok s → IsLoaded z b s × IsDistinct nat_eq (taken_by s) }
     ensures only { (z : ℕ) (b : List ℕ) (s : Loaded) → IsTrue (is_size z) → length b ≤ 268435456 → IsLoaded z b s → IsDistinct nat_eq (taken_by s) → load_of z b ≡ Ok s }
+{}
+
+/// What is claimed is the chain of a stream, clear of the earlier chains, and it is claimed wherever there is one.
+pub fn claims_are_exact()
+    ensures sound { (z : ℕ) (b : List ℕ) (s : Loaded) (e : Entry) (o : ℕ) (long short c : List ℕ) → claim_of z b s e o long short ≡ Ok c → IsStream z b s e c × AllByRecursion (λ n. member n long ≡ false) (long_part e c) × AllByRecursion (λ n. member n short ≡ false) (short_part e c) }
+    ensures only { (z : ℕ) (b : List ℕ) (s : Loaded) (e : Entry) (o : ℕ) (long short c : List ℕ) → IsTrue (is_size z) → length b ≤ 268435456 → IsLoaded z b s → IsStream z b s e c → AllByRecursion (λ n. member n long ≡ false) (long_part e c) → AllByRecursion (λ n. member n short ≡ false) (short_part e c) → claim_of z b s e o long short ≡ Ok c }
 {}
 
 /// What is answered of a file are the files that it holds, and they are answered wherever it holds any. So it holds no

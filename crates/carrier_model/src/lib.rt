@@ -10,7 +10,7 @@ mod text_rows;
 mod tnef_laws;
 
 pub use file_laws::{
-    chains_are_exact, files_are_exact, links_are_exact, loads_are_exact, the_list_is_longest,
+    chains_are_exact, claims_are_exact, files_are_exact, links_are_exact, loads_are_exact, the_list_is_longest,
 };
 pub use laws::{
     acceptance_is_exact, attributes_are_exact, canonical_means_the_message, keys_are_ordered,
