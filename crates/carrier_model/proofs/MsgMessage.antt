@@ -1,11 +1,13 @@
 -- The message that a .msg file gives is the one that it means.
 use Rattle.std.proofs.Common.{◌≡◌, ℕ, zero, suc, List, Result, Ok, Err, Option, Some, None, refl, sym, ap, ◌∙◌}
-use Rattle.std.specs.Prelude.{is_some}
+use Rattle.std.specs.Prelude.{is_some, IsTrue, length, ◌≤◌}
 use Rattle.carrier_model.specs.Trail.{Fault, IsExact}
 use Rattle.carrier_model.specs.Reasons.{OLE_STORAGE, MISSING_STORAGE}
 use Rattle.carrier_model.specs.Outcomes.{mapped}
 use Rattle.carrier_model.specs.Turns.{each, found}
-use Rattle.carrier_model.specs.Files.{Files}
+use Rattle.carrier_model.specs.Files.{Files, open_of}
+use Rattle.carrier_model.specs.Sectors.{is_size}
+use Rattle.carrier_model.proofs.HoldsLaws.{open_sound, holds_opened}
 use Rattle.carrier_model.specs.Lookups.{stream_named, storage_named}
 use Rattle.carrier_model.specs.TnefLists.{ATTACHED_OBJECT}
 use Rattle.carrier_model.specs.TnefMessage.{Meaning, GREATEST_LEVEL}
@@ -13,7 +15,7 @@ use Rattle.carrier_model.specs.NameMap.{Pair, pairs_of}
 use Rattle.carrier_model.specs.WrittenNames.{value_name}
 use Rattle.carrier_model.specs.WrittenMsg.{PROPERTIES}
 use Rattle.carrier_model.specs.MsgProps.{Part, top, embedded_message, recipient, attachment, Section, MsgProps}
-use Rattle.carrier_model.specs.MsgMessage.{name_streams, RECIPIENT_NAME, ATTACHMENT_NAME, numbered, list_in, Carried, carried, meaning_of, Inner, embedded_in, body_in, attachment_in, message_with, message_in, msg_in, Within, HasMessage, HasBody, AttachmentMeans, MessageMeans, MsgMeans, FilesMean}
+use Rattle.carrier_model.specs.MsgMessage.{name_streams, RECIPIENT_NAME, ATTACHMENT_NAME, numbered, list_in, Carried, carried, meaning_of, Inner, embedded_in, body_in, attachment_in, message_with, message_in, files_meaning, Within, HasMessage, HasBody, AttachmentMeans, MessageMeans, MsgMeans, FilesMean, file_meaning, MsgCarrier, MsgFault}
 use Rattle.carrier_model.proofs.Turns.{ok_same, bind_ok, bind_from, check_ok, check_from, mapped_ok, found_ok, each-sound, each-only, zip_weaker}
 use Rattle.carrier_model.proofs.MsgProps.{props_of-sound, props_of-only}
 use Rattle.carrier_model.proofs.NameMap.{pairs_of-sound, pairs_of-only}
@@ -103,15 +105,15 @@ unfolding message_in
 message_in-only zero pairs part s m h = with-only pairs _ (λ below inner. ⊥) (λ place below x e. absurd e) part s m h
 message_in-only (suc n) pairs part s m h = with-only pairs _ _ (λ place below x e. message_in-only n pairs embedded_message below x e) part s m h
 
-pub msg_in-sound : (root : Files) (m : Meaning) → msg_in root ≡ Ok m → FilesMean root m
-unfolding msg_in
-msg_in-sound root m h =
+pub files_meaning-sound : (root : Files) (m : Meaning) → files_meaning root ≡ Ok m → FilesMean root m
+unfolding files_meaning
+files_meaning-sound root m h =
     let (pairs, named, is) = bind_ok (pairs_of (name_streams root)) _ m h in
     record { pairs = pairs; named = pairs_of-sound (name_streams root) pairs named; means = message_in-sound GREATEST_LEVEL pairs top root m is }
 
-pub msg_in-only : (root : Files) (m : Meaning) → FilesMean root m → msg_in root ≡ Ok m
-unfolding msg_in
-msg_in-only root m h =
+pub files_meaning-only : (root : Files) (m : Meaning) → FilesMean root m → files_meaning root ≡ Ok m
+unfolding files_meaning
+files_meaning-only root m h =
     bind_from (pairs_of (name_streams root)) _ h.pairs (pairs_of-only (name_streams root) h.pairs h.named)
     ∙ message_in-only GREATEST_LEVEL h.pairs top root m h.means
 
@@ -123,5 +125,20 @@ answers_exact r means only = record {
   apart = λ x g m e. (let both : r ≡ Ok x = only x m in cc);
 }
 
-pub files_exact : (root : Files) → IsExact (FilesMean root) (λ g. msg_in root ≡ Err g)
-files_exact root = answers_exact (msg_in root) (FilesMean root) (msg_in-only root)
+pub files_exact : (root : Files) → IsExact (FilesMean root) (λ g. files_meaning root ≡ Err g)
+files_exact root = answers_exact (files_meaning root) (FilesMean root) (files_meaning-only root)
+
+-- ---- whole files
+
+pub carrier-sound : (z : ℕ) (b : List ℕ) (m : Meaning) → file_meaning z b ≡ Ok m → MsgCarrier z b m.message m.passed
+unfolding file_meaning
+carrier-sound z b m h =
+    let (root, opened, is) = bind_ok (open_of z b) files_meaning m h in
+    record { root = root; holds = open_sound z b root opened; means = files_meaning-sound root m is }
+
+pub carrier-only : (z : ℕ) (b : List ℕ) (m : Meaning) → IsTrue (is_size z) → length b ≤ 268435456 → MsgCarrier z b m.message m.passed → file_meaning z b ≡ Ok m
+unfolding file_meaning
+carrier-only z b m size short h = bind_from (open_of z b) files_meaning h.root (holds_opened z b h.root size short h.holds) ∙ files_meaning-only h.root m h.means
+
+pub carriers_exact : (z : ℕ) (b : List ℕ) → IsTrue (is_size z) → length b ≤ 268435456 → IsExact (λ (m : Meaning). MsgCarrier z b m.message m.passed) (MsgFault z b)
+carriers_exact z b size short = answers_exact (file_meaning z b) (λ (m : Meaning). MsgCarrier z b m.message m.passed) (λ m. carrier-only z b m size short)

@@ -36,6 +36,7 @@ pub mod Places
 pub mod ReasonNames
 pub mod Reasons
 pub mod ReportTexts
+pub mod SampleFiles
 pub mod SampleTrees
 pub mod Sectors
 pub mod Sorted

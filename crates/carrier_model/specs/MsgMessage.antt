@@ -134,20 +134,20 @@ message_in zero pairs part s = message_with pairs (λ place below. Err (TOO_DEEP
 message_in (suc n) pairs part s = message_with pairs (λ place below. message_in n pairs embedded_message below) part s
 
 -- the names, and then the message of the root
-unfoldable pub msg_in : Files → Result Meaning Fault
-msg_in root = do
+unfoldable pub files_meaning : Files → Result Meaning Fault
+files_meaning root = do
   pairs ← pairs_of (name_streams root)
   message_in GREATEST_LEVEL pairs top root
 
 -- what a file means, or its first fault; z is the sector size
-unfoldable pub msg_of : ℕ → List ℕ → Result Meaning Fault
-msg_of z b = do
+unfoldable pub file_meaning : ℕ → List ℕ → Result Meaning Fault
+file_meaning z b = do
   root ← open_of z b
-  msg_in root
+  files_meaning root
 
 -- the first fault of a file
 abbrev pub MsgFault : ℕ → List ℕ → Fault → Type 0
-MsgFault z b g = msg_of z b ≡ Err g
+MsgFault z b g = file_meaning z b ≡ Err g
 
 -- ---- the same as a relation
 

@@ -5,12 +5,14 @@
 mod file_laws;
 mod laws;
 mod msg_laws;
+mod msg_read_rows;
 mod msg_rows;
 mod text_rows;
 mod tnef_laws;
 
 pub use file_laws::{
-    chains_are_exact, claims_are_exact, files_are_exact, links_are_exact, loads_are_exact, the_list_is_longest,
+    chains_are_exact, claims_are_exact, files_are_exact, links_are_exact, loads_are_exact,
+    the_list_is_longest,
 };
 pub use laws::{
     acceptance_is_exact, attributes_are_exact, canonical_means_the_message, keys_are_ordered,
@@ -18,7 +20,10 @@ pub use laws::{
 };
 pub use msg_laws::{
     files_mean_one_message, lists_of_storages_are_exact, messages_of_files_are_exact,
-    names_are_exact,
+    msg_carriers_are_exact, names_are_exact,
+};
+pub use msg_read_rows::{
+    a_name_twice, chains_of_a_small_file, files_are_read_back, lists_of_one_entry, one_name_is_read,
 };
 pub use msg_rows::{
     canonical_tnef_of_small_messages, the_entry_of_one_property, the_file_of_an_empty_message,

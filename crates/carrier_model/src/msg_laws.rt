@@ -1,10 +1,11 @@
 //! Laws about .msg files.
-ghost use Rattle.std.specs.Prelude.{◌≡◌, ℕ, List, Ok, Err};
+ghost use Rattle.std.specs.Prelude.{◌≡◌, ◌≤◌, ℕ, List, length, IsTrue, Ok, Err};
 ghost use Rattle.carrier_model.specs.Files.{Files};
-ghost use Rattle.carrier_model.specs.MsgMessage.{msg_in, FilesMean};
+ghost use Rattle.carrier_model.specs.MsgMessage.{files_meaning, file_meaning, FilesMean, MsgCarrier, MsgFault};
 ghost use Rattle.carrier_model.specs.MsgProps.{Part, Section, MsgProps, props_of};
 ghost use Rattle.carrier_model.specs.MsgValues.{Streams};
 ghost use Rattle.carrier_model.specs.NameMap.{NameStreams, Pair, NamePairs, pairs_of};
+ghost use Rattle.carrier_model.specs.Sectors.{is_size};
 ghost use Rattle.carrier_model.specs.TnefMessage.{Meaning};
 ghost use Rattle.carrier_model.specs.Trail.{IsExact};
 
@@ -22,11 +23,20 @@ pub fn lists_of_storages_are_exact()
 
 /// The files of a .msg mean one message, or have one first fault.
 pub fn messages_of_files_are_exact()
-    ensures sound { (root : Files) (m : Meaning) → msg_in root ≡ Ok m → FilesMean root m }
-    ensures only { (root : Files) (m : Meaning) → FilesMean root m → msg_in root ≡ Ok m }
+    ensures sound { (root : Files) (m : Meaning) → files_meaning root ≡ Ok m → FilesMean root m }
+    ensures only { (root : Files) (m : Meaning) → FilesMean root m → files_meaning root ≡ Ok m }
 {}
 
 /// Files mean at most one message, or have one first fault, and not both.
 pub fn files_mean_one_message()
-    ensures { (root : Files) → IsExact (FilesMean root) (λ g. msg_in root ≡ Err g) }
+    ensures { (root : Files) → IsExact (FilesMean root) (λ g. files_meaning root ≡ Err g) }
+{}
+
+/// What is answered of a .msg file is the message that it carries, with what was passed over, and it is answered
+/// wherever there is one. So a file carries at most one message, or has one first fault, and not both. z is the sector
+/// size.
+pub fn msg_carriers_are_exact()
+    ensures sound { (z : ℕ) (b : List ℕ) (m : Meaning) → file_meaning z b ≡ Ok m → MsgCarrier z b m.message m.passed }
+    ensures only { (z : ℕ) (b : List ℕ) (m : Meaning) → IsTrue (is_size z) → length b ≤ 268435456 → MsgCarrier z b m.message m.passed → file_meaning z b ≡ Ok m }
+    ensures exact { (z : ℕ) (b : List ℕ) → IsTrue (is_size z) → length b ≤ 268435456 → IsExact (λ (m : Meaning). MsgCarrier z b m.message m.passed) (MsgFault z b) }
 {}
