@@ -1,5 +1,5 @@
 -- The walk over a directory, by what is pending.
-use Rattle.std.specs.Prelude.{ℕ, suc, ◌+◌, ◌≤◌, List, [], ◌∷◌, ◌++◌, Result, Ok, Err, map}
+use Rattle.std.specs.Prelude.{ℕ, suc, ◌+◌, ◌<◌, ◌≤◌, List, [], ◌∷◌, ◌++◌, Result, Ok, Err, map}
 use Rattle.carrier_model.specs.Trail.{Fault}
 use Rattle.carrier_model.specs.Outcomes.{◌>>=◌, mapped}
 use Rattle.carrier_model.specs.Entries.{Entry}
@@ -7,6 +7,7 @@ use Rattle.carrier_model.specs.Links.{Directory, Link, Links, leaf, node, ids, v
 use Rattle.cfb_sectors.specs.States.{State, entries, entry_of, place_of}
 use Rattle.cfb_directory.specs.declared.links.Link as rust
 use Rattle.cfb_directory.specs.declared.links.Child.{Child}
+use Rattle.cfb_directory.specs.declared.links.Walked as rust_walked
 use Rattle.cfb_directory.specs.declared.links.Pending.{Pending}
 use Rattle.cfb_directory.specs.declared.links.Pending.TheVariants.{Visit, Place}
 
@@ -22,9 +23,20 @@ abbrev pub placed : ℕ → Links → List Child
 placed parent leaf = []
 placed parent (node id l r c) = placed parent l ++ record { parent = parent; id = id } ∷ (placed parent r ++ placed id c)
 
--- the children of all storages, from the link of the root's
-abbrev pub walk_of : Directory → rust.Link → List ℕ → Result (List Child) Fault
-walk_of d first seen = mapped (placed first.parent) (links_of d (link_of first) seen)
+-- the entries with their storages, and the numbers in the order of the visits
+pub record Walked : Type 0 where
+  pub order : List Child
+  pub visits : List ℕ
+
+abbrev pub walked : rust_walked.Walked → Walked
+walked w = record { order = w.order.items; visits = w.visits.items }
+
+abbrev pub tour : ℕ → Links → Walked
+tour parent t = record { order = placed parent t; visits = ids t }
+
+-- what a walk from a link gives
+abbrev pub walk_of : Directory → rust.Link → List ℕ → Result Walked Fault
+walk_of d first seen = mapped (tour first.parent) (links_of d (link_of first) seen)
 
 -- the links of an entry at a place
 abbrev pub rust_left : rust.Link → Entry → ℕ → rust.Link
@@ -36,22 +48,22 @@ rust_right link e place = record { target = e.right; place = place + 72; depth =
 abbrev pub rust_below : rust.Link → Entry → ℕ → rust.Link
 rust_below link e place = record { target = below_link e; place = place + 76; depth = below_depth e link.depth; parent = link.target }
 
+-- the same with a front before each list
+abbrev pub with_front : List Child → List ℕ → Result Walked Fault → Result Walked Fault
+with_front order visits (Ok rest) = Ok (record { order = order ++ rest.order; visits = visits ++ rest.visits })
+with_front order visits (Err g) = Err g
+
 -- What the pending links and places give, one after another.
-unfoldable pub pend : Directory → List Pending → List ℕ → Result (List Child) Fault
-pend d [] seen = Ok []
-pend d (Visit link ∷ ps) seen = do
-  t ← visit (suc d.count) d (link_of link) seen
-  rest ← pend d ps (seen ++ ids t)
-  Ok (placed link.parent t ++ rest)
-pend d (Place child ∷ ps) seen = do
-  rest ← pend d ps seen
-  Ok (child ∷ rest)
+unfoldable pub pend : Directory → List Pending → List ℕ → Result Walked Fault
+pend d [] seen = Ok (record { order = []; visits = [] })
+pend d (Visit link ∷ ps) seen = visit (suc d.count) d (link_of link) seen >>= λ t. with_front (placed link.parent t) (ids t) (pend d ps (seen ++ ids t))
+pend d (Place child ∷ ps) seen = with_front (child ∷ []) [] (pend d ps seen)
 
--- the same with a front before the list
-abbrev pub with_front : List Child → Result (List Child) Fault → Result (List Child) Fault
-with_front front (Ok rest) = Ok (front ++ rest)
-with_front front (Err g) = Err g
+-- both are entries that there are
+abbrev pub IsInside : ℕ → Child → Type 0
+IsInside count child = (child.parent < count) × (child.id < count)
 
-abbrev pub IsShallow : Pending → Type 0
-IsShallow (Visit link) = link.depth ≤ 101
-IsShallow (Place child) = Unit {0}
+-- what is pending speaks of entries that there are
+abbrev pub IsSafe : ℕ → Pending → Type 0
+IsSafe count (Visit link) = (link.depth ≤ 101) × (link.parent < count)
+IsSafe count (Place child) = IsInside count child

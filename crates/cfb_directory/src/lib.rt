@@ -4,7 +4,7 @@
 mod links;
 mod walk;
 
-pub use links::{Child, Link};
+pub use links::{Child, Link, Walked};
 pub use walk::walk_directory;
 
 #[cfg(test)]

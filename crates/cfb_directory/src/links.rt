@@ -23,3 +23,12 @@ pub enum Pending {
     Visit(Link),
     Place(Child),
 }
+
+/// The entries that a walk visited.
+#[derive(Drop)]
+pub struct Walked {
+    /// Each with its storage, in sibling order within each storage.
+    pub order: Vec<Child>,
+    /// Their numbers, in the order of the visits.
+    pub visits: Vec<u32>,
+}

@@ -1,14 +1,14 @@
 //! The walk over a directory, by a list of pending links.
-ghost use Rattle.std.specs.Prelude.{◌≡◌, ℕ, ◌+◌, ◌<◌, ◌≤◌, ◌++◌, ◌∷◌, List, [], length, IfOk, OnOk};
+ghost use Rattle.std.specs.Prelude.{◌≡◌, ℕ, ◌+◌, ◌<◌, ◌≤◌, ◌++◌, ◌∷◌, List, [], length, IfOk, OnOk, All};
 ghost use Rattle.carrier_model.specs.Links.{visited, is_storage};
 ghost use Rattle.carrier_model.specs.Marks.{Marks, unmarked};
 ghost use Rattle.carrier_io.specs.Reads.{Gives};
 ghost use Rattle.carrier_io.specs.declared.reasons.Stop.TheVariants as stops;
 ghost use Rattle.cfb_sectors.specs.Views.{entry as entry_seen};
 ghost use Rattle.cfb_directory.specs.declared.links.Pending.TheVariants.{Visit, Place};
-ghost use Rattle.cfb_directory.specs.Walks.{directory_of, link_of, walk_of, rust_left, rust_right, rust_below};
+ghost use Rattle.cfb_directory.specs.Walks.{directory_of, link_of, walked, walk_of, IsInside, rust_left, rust_right, rust_below};
 
-use crate::links::{Child, Link, Pending};
+use crate::links::{Child, Link, Pending, Walked};
 use carrier_io::{Fault, NoMemory, Reason, Stop};
 use cfb_sectors::{Entry, SectorMarks, Sectors};
 use std::alloc::Global;
@@ -92,18 +92,24 @@ fn put_off(pending: &mut Vec<Pending>, link: Link, entry: Entry, place: u64) -> 
     Ok(())
 }
 
-/// The entries under a link, each with its storage, in sibling order within each storage. The first fault of the walk.
+/// The entries under a link, each with its storage. The first fault of the walk.
 pub fn walk_directory(
     alloc: Global,
     sectors: &Sectors<'_>,
     first: Link,
     marks: &mut SectorMarks,
-) -> Result<Vec<Child>, Stop>
+) -> Result<Walked, Stop>
     requires marks { length marks.old ≡ (directory_of sectors.now).count }
     requires depth { first.depth ≤ 1 }
-    ensures answer { (seen : List ℕ) → Marks marks.old seen → Gives (λ v. v.items) result (walk_of (directory_of sectors.now) first seen) }
+    requires parent { first.parent < (directory_of sectors.now).count }
+    ensures answer { (seen : List ℕ) → Marks marks.old seen → Gives walked result (walk_of (directory_of sectors.now) first seen) }
+    ensures marked { (seen : List ℕ) → Marks marks.old seen → IfOk result (λ w. Marks marks.new (seen ++ w.visits.items)) }
+    ensures order { IfOk result (λ w. All (IsInside (directory_of sectors.now).count) w.order.items) }
+    ensures visits { IfOk result (λ w. All (λ n. n < (directory_of sectors.now).count) w.visits.items) }
+    ensures length { length marks.new ≡ length marks.old }
 {
     let mut order = Vec::new(alloc);
+    let mut visits = Vec::new(alloc);
     let mut pending = Vec::new(alloc);
     pending.push(Pending::Visit(first))?;
     while let Some(next) = pending.pop() {
@@ -112,11 +118,12 @@ pub fn walk_directory(
             Pending::Visit(link) => {
                 if link.target != NO_LINK {
                     let entry = visit_entry(sectors, link, marks)?;
+                    visits.push(link.target)?;
                     let place = sectors.entry_offset(link.target);
                     put_off(&mut pending, link, entry, place)?;
                 }
             }
         }
     }
-    Ok(order)
+    Ok(Walked { order, visits })
 }
