@@ -4,7 +4,8 @@ use Rattle.carrier_model.specs.Trail.{Fault}
 use Rattle.carrier_model.specs.Outcomes.{◌>>=◌, mapped}
 use Rattle.carrier_model.specs.Entries.{Entry}
 use Rattle.carrier_model.specs.Links.{Directory, Link, Links, leaf, node, ids, visit, links_of, below_link, below_depth}
-use Rattle.cfb_sectors.specs.States.{State, entries, entry_of, place_of}
+use Rattle.carrier_model.specs.Files.{directory_in}
+use Rattle.cfb_sectors.specs.States.{State}
 use Rattle.cfb_directory.specs.declared.links.Link as rust
 use Rattle.cfb_directory.specs.declared.links.Child.{Child}
 use Rattle.cfb_directory.specs.declared.links.Walked as rust_walked
@@ -13,7 +14,7 @@ use Rattle.cfb_directory.specs.declared.links.Pending.TheVariants.{Visit, Place}
 
 -- the directory of a loaded file
 abbrev pub directory_of : State → Directory
-directory_of s = record { count = entries s; entry = entry_of s; place = place_of s }
+directory_of s = directory_in s.size s.file s.loaded.directory
 
 abbrev pub link_of : rust.Link → Link
 link_of link = record { target = link.target; place = link.place; depth = link.depth }

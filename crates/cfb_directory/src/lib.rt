@@ -2,6 +2,7 @@
 #![tactic(auto)]
 
 mod links;
+mod names;
 mod walk;
 
 pub use links::{Child, Link, Walked};

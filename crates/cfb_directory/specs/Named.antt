@@ -1,0 +1,21 @@
+-- The children of a storage by name.
+use Rattle.std.specs.Prelude.{ℕ, List, [], ◌∷◌, Option, None, Some, nat_eq, if◌then◌else◌}
+use Rattle.std.specs.BTreeMap.{get_by}
+use Rattle.std.specs.Cmp.Lexicographic.{slice_cmp, pointwise}
+use Rattle.std.specs.Ordering.{nat_cmp}
+use Rattle.carrier_model.specs.Files.{name_of, folded}
+use Rattle.carrier_model.specs.Links.{Directory}
+use Rattle.cfb_directory.specs.declared.names.NameIndex.{NameIndex}
+
+-- the child that an index has under a name in lower case
+abbrev pub found : NameIndex → List ℕ → Option ℕ
+found index q = get_by (λ k. slice_cmp nat_cmp q k.items) index.ids
+
+-- the name of an entry, in lower case
+abbrev pub key_of : Directory → ℕ → List ℕ
+key_of d id = folded (name_of (d.entry id))
+
+-- the first of some entries with that name
+abbrev pub first_named : Directory → List ℕ → List ℕ → Option ℕ
+first_named d q [] = None
+first_named d q (id ∷ ids) = if pointwise nat_eq q (key_of d id) then Some id else first_named d q ids
