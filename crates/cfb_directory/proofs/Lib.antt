@@ -1,2 +1,3 @@
+pub mod FamilyLaws
 pub mod NameLaws
 pub mod WalkLaws

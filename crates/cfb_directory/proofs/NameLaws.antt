@@ -36,7 +36,7 @@ updated f x m n w h y =
       | inr other ↦ other_entries _ _ _ _ h.3 _ (λ j k. (eq_by_cmp_equiv nat_list_cmp_total).congr y (f j) (f k)) (λ k. apart x y (f k) other) ∙ sym (cond-false (pointwise nat_eq x y) w _ other)
     ]
 
-among_named : (d : Directory) (q xs : List ℕ) → is_among q (map (key_of d) xs) ≡ is_some (first_named d q xs)
+among_named : (d : Directory) (q xs : List ℕ) → is_among q (map (key_of d) xs) ≡ is_some (first_named (key_of d) q xs)
 among_named d q [] = refl
 among_named d q (x ∷ xs) =
     elim (cases_Bool (pointwise nat_eq q (key_of d x))) [
@@ -44,7 +44,7 @@ among_named d q (x ∷ xs) =
       | inr other ↦ rw other (among_named d q xs)
     ]
 
-named_behind : (d : Directory) (q xs : List ℕ) (x : ℕ) → first_named d q (xs ++ x ∷ []) ≡ cond (is_some (first_named d q xs)) (first_named d q xs) (cond (pointwise nat_eq q (key_of d x)) (Some x) None)
+named_behind : (d : Directory) (q xs : List ℕ) (x : ℕ) → first_named (key_of d) q (xs ++ x ∷ []) ≡ cond (is_some (first_named (key_of d) q xs)) (first_named (key_of d) q xs) (cond (pointwise nat_eq q (key_of d x)) (Some x) None)
 named_behind d q [] x = refl
 named_behind d q (y ∷ xs) x =
     elim (cases_Bool (pointwise nat_eq q (key_of d y))) [
@@ -57,34 +57,34 @@ or_none None = refl
 or_none (Some x) = refl
 
 -- one more entry, whose name none before it has
-pub named_more : (d : Directory) (q xs : List ℕ) (x : ℕ) → first_named d (key_of d x) xs ≡ None → first_named d q (xs ++ x ∷ []) ≡ cond (pointwise nat_eq (key_of d x) q) (Some x) (first_named d q xs)
+pub named_more : (d : Directory) (q xs : List ℕ) (x : ℕ) → first_named (key_of d) (key_of d x) xs ≡ None → first_named (key_of d) q (xs ++ x ∷ []) ≡ cond (pointwise nat_eq (key_of d x) q) (Some x) (first_named (key_of d) q xs)
 named_more d q xs x none =
     named_behind d q xs x ∙ elim (cases_Bool (pointwise nat_eq (key_of d x) q)) [
       | inl same ↦
           let there : pointwise nat_eq q (key_of d x) ≡ true = nat_list_eq_equiv.symm q (key_of d x) ∙ same in
-          let absent : first_named d q xs ≡ None = subst (λ l. first_named d l xs ≡ None) ((bytes_eq-Decides (key_of d x) q).0 same) none in
+          let absent : first_named (key_of d) q xs ≡ None = subst (λ l. first_named (key_of d) l xs ≡ None) ((bytes_eq-Decides (key_of d x) q).0 same) none in
           rw (absent, there, same) refl
       | inr other ↦
           let away : pointwise nat_eq q (key_of d x) ≡ false = nat_list_eq_equiv.symm q (key_of d x) ∙ other in
-          rw (away, other) (or_none (first_named d q xs))
+          rw (away, other) (or_none (first_named (key_of d) q xs))
     ]
 
 -- The steps of the test of some names.
-pub name_step : (d : Directory) (before rest : List ℕ) (x : ℕ) (w : Result (Unit {0}) Fault) → w ≡ family_names d (x ∷ rest) (map (key_of d) before) → first_named d (key_of d x) before ≡ None → w ≡ family_names d rest (map (key_of d) before ++ key_of d x ∷ [])
+pub name_step : (d : Directory) (before rest : List ℕ) (x : ℕ) (w : Result (Unit {0}) Fault) → w ≡ family_names d (x ∷ rest) (map (key_of d) before) → first_named (key_of d) (key_of d x) before ≡ None → w ≡ family_names d rest (map (key_of d) before ++ key_of d x ∷ [])
 unfolding family_names
 name_step d before rest x w is none = is ∙ rw (among_named d (key_of d x) before, none) refl
 
-pub name_stop : (d : Directory) (before rest : List ℕ) (x : ℕ) (w : Result (Unit {0}) Fault) → w ≡ family_names d (x ∷ rest) (map (key_of d) before) → IsSome (first_named d (key_of d x) before) → w ≡ Err (DOUBLE_NAME, d.place x)
+pub name_stop : (d : Directory) (before rest : List ℕ) (x : ℕ) (w : Result (Unit {0}) Fault) → w ≡ family_names d (x ∷ rest) (map (key_of d) before) → IsSome (first_named (key_of d) (key_of d x) before) → w ≡ Err (DOUBLE_NAME, d.place x)
 unfolding family_names
 name_stop d before rest x w is some = is ∙ rw (among_named d (key_of d x) before, some) refl
 
 -- the same over a list by an index
-pub family_step : (d : Directory) (family : List ℕ) (i : ℕ) (w : Result (Unit {0}) Fault) → i < length family → w ≡ family_names d (drop i family) (map (key_of d) (take i family)) → first_named d (key_of d (get_or family i 0)) (take i family) ≡ None → w ≡ family_names d (drop (i + 1) family) (map (key_of d) (take (i + 1) family))
+pub family_step : (d : Directory) (family : List ℕ) (i : ℕ) (w : Result (Unit {0}) Fault) → i < length family → w ≡ family_names d (drop i family) (map (key_of d) (take i family)) → first_named (key_of d) (key_of d (get_or family i 0)) (take i family) ≡ None → w ≡ family_names d (drop (i + 1) family) (map (key_of d) (take (i + 1) family))
 family_step d family i w below is none =
     rw (add-one, take-suc family i 0 below, map-append (key_of d) (take i family) (get_or family i 0 ∷ []))
     (name_step d (take i family) (drop (suc i) family) (get_or family i 0) w (is ∙ ap (λ l. family_names d l (map (key_of d) (take i family))) (drop-cons family i 0 below)) none)
 
-pub family_stop : (d : Directory) (family : List ℕ) (i : ℕ) (w : Result (Unit {0}) Fault) → i < length family → w ≡ family_names d (drop i family) (map (key_of d) (take i family)) → IsSome (first_named d (key_of d (get_or family i 0)) (take i family)) → w ≡ Err (DOUBLE_NAME, d.place (get_or family i 0))
+pub family_stop : (d : Directory) (family : List ℕ) (i : ℕ) (w : Result (Unit {0}) Fault) → i < length family → w ≡ family_names d (drop i family) (map (key_of d) (take i family)) → IsSome (first_named (key_of d) (key_of d (get_or family i 0)) (take i family)) → w ≡ Err (DOUBLE_NAME, d.place (get_or family i 0))
 family_stop d family i w below is some =
     name_stop d (take i family) (drop (suc i) family) (get_or family i 0) w (is ∙ ap (λ l. family_names d l (map (key_of d) (take i family))) (drop-cons family i 0 below)) some
 
@@ -92,5 +92,5 @@ pub family_done : (d : Directory) (family : List ℕ) (i : ℕ) (w : Result (Uni
 unfolding family_names
 family_done d family i w over is = is ∙ ap (λ l. family_names d l (map (key_of d) (take i family))) (drop_all i family over)
 
-pub family_more : (d : Directory) (q family : List ℕ) (i : ℕ) → i < length family → first_named d (key_of d (get_or family i 0)) (take i family) ≡ None → first_named d q (take (i + 1) family) ≡ cond (pointwise nat_eq (key_of d (get_or family i 0)) q) (Some (get_or family i 0)) (first_named d q (take i family))
+pub family_more : (d : Directory) (q family : List ℕ) (i : ℕ) → i < length family → first_named (key_of d) (key_of d (get_or family i 0)) (take i family) ≡ None → first_named (key_of d) q (take (i + 1) family) ≡ cond (pointwise nat_eq (key_of d (get_or family i 0)) q) (Some (get_or family i 0)) (first_named (key_of d) q (take i family))
 family_more d q family i below none = rw (add-one, take-suc family i 0 below) (named_more d q (take i family) (get_or family i 0) none)

@@ -1,2 +1,3 @@
+pub mod Families
 pub mod Named
 pub mod Walks

@@ -15,7 +15,7 @@ found index q = get_by (λ k. slice_cmp nat_cmp q k.items) index.ids
 abbrev pub key_of : Directory → ℕ → List ℕ
 key_of d id = folded (name_of (d.entry id))
 
--- the first of some entries with that name
-abbrev pub first_named : Directory → List ℕ → List ℕ → Option ℕ
-first_named d q [] = None
-first_named d q (id ∷ ids) = if pointwise nat_eq q (key_of d id) then Some id else first_named d q ids
+-- the first of some entries that has this name, where a key is an entry's name in lower case
+abbrev pub first_named : (ℕ → List ℕ) → List ℕ → List ℕ → Option ℕ
+first_named key q [] = None
+first_named key q (id ∷ ids) = if pointwise nat_eq q (key id) then Some id else first_named key q ids

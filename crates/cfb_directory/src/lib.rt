@@ -1,6 +1,7 @@
 //! The directory of a compound file: its entries as they are linked.
 #![tactic(auto)]
 
+mod families;
 mod links;
 mod names;
 mod walk;

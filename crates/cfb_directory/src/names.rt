@@ -6,7 +6,7 @@ ghost use Rattle.carrier_model.specs.Files.{name_of, folded, family_names};
 ghost use Rattle.carrier_io.specs.Reads.{Gives};
 ghost use Rattle.cfb_sectors.specs.States.{entries};
 ghost use Rattle.cfb_sectors.specs.Views.{entry as entry_seen};
-ghost use Rattle.cfb_directory.specs.Named.{found, first_named};
+ghost use Rattle.cfb_directory.specs.Named.{found, key_of, first_named};
 ghost use Rattle.cfb_directory.specs.Walks.{directory_of};
 
 use carrier_io::{Fault, NoMemory, Reason, Stop};
@@ -77,14 +77,10 @@ impl NameIndex {
 
 /// The children of a storage by name, for their entries' numbers in sibling order. DoubleName at the first entry whose
 /// name an earlier one has, up to the case of ASCII letters.
-pub fn index_names(
-    alloc: Global,
-    sectors: &Sectors<'_>,
-    family: &[u32],
-) -> Result<NameIndex, Stop>
+pub fn index_names(alloc: Global, sectors: &Sectors<'_>, family: &[u32]) -> Result<NameIndex, Stop>
     requires { All (λ n. n < entries sectors.now) family.now }
     ensures answer { Gives (λ _. tt) result (family_names (directory_of sectors.now) family.now []) }
-    ensures named { IfOk result (λ index. (q : List ℕ) → found index q ≡ first_named (directory_of sectors.now) q family.now) }
+    ensures named { IfOk result (λ index. (q : List ℕ) → found index q ≡ first_named (key_of (directory_of sectors.now)) q family.now) }
 {
     let mut index = NameIndex::new(alloc);
     for id in family {

@@ -77,7 +77,7 @@ fn walked(alloc: Global, at: u16, value: u32) -> Result<Result<usize, Fault>, Fa
         parent: 0,
     };
     match walk_directory(alloc, &sectors, first, &mut marks) {
-        Ok(order) => Ok(Ok(order.len())),
+        Ok(walked) => Ok(Ok(walked.order.len())),
         Err(Stop::Fault(fault)) => Ok(Err(fault)),
         Err(Stop::NoMemory) => Err("memory")?,
     }

@@ -23,7 +23,7 @@ loop-id-preserved c =
     let x = get_or family i 0 in
     let key : folded c.name.result.now ≡ key_of d x = ap folded (c.name.ensures ∙ ap name_of c.entry-entry.ensures) in
     let put = rw (c.if-not-branch.false, key) at c.in_ok-insert.ensures in
-    let none : first_named d (key_of d x) (take i family) ≡ None = sym (c.loop-id.invariant.named (key_of d x)) ∙ put.0 in
+    let none : first_named (key_of d) (key_of d x) (take i family) ≡ None = sym (c.loop-id.invariant.named (key_of d x)) ∙ put.0 in
     record {
       named = λ q. put.1 q ∙ (ap (cond (pointwise nat_eq (key_of d x) q) (Some x)) (c.loop-id.invariant.named q) ∙ sym (family_more d q family i c.loop-id-test.true none));
       so_far = family_step d family i _ c.loop-id-test.true c.loop-id.invariant.so_far none;

@@ -6,6 +6,6 @@ use Rattle.cfb_directory.proofs.names.index_names.Given as goal
 
 abbrev pub invariant-loop-id : goal.invariant-loop-id
 invariant-loop-id l = record {
-  named : (q : List ℕ) → found l.index q ≡ first_named (directory_of l.sectors) q (take l.id-index l.family);
+  named : (q : List ℕ) → found l.index q ≡ first_named (key_of (directory_of l.sectors)) q (take l.id-index l.family);
   so_far : family_names (directory_of l.sectors) l.family [] ≡ family_names (directory_of l.sectors) (drop l.id-index l.family) (map (key_of (directory_of l.sectors)) (take l.id-index l.family));
 }
