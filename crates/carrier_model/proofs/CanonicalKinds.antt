@@ -15,12 +15,12 @@ use Rattle.carrier_model.proofs.CanonicalValues.{then_spells, seen_spells, first
 -- ---- kinds
 
 -- what holds of each row of a table
-abbrev EachRow : (ℕ → ℕ → Type 0) → List (ℕ × ℕ) → Type 0
+abbrev pub EachRow : (ℕ → ℕ → Type 0) → List (ℕ × ℕ) → Type 0
 EachRow P [] = Unit {0}
 EachRow P (row ∷ rows) = P row.0 row.1 × EachRow P rows
 
 -- holds of a kind that the table has, with its width
-among_rows : (P : ℕ → ℕ → Type 0) (rows : List (ℕ × ℕ)) (kind : ℕ) → EachRow P rows → 0 < width_in rows kind → P kind (width_in rows kind)
+pub among_rows : (P : ℕ → ℕ → Type 0) (rows : List (ℕ × ℕ)) (kind : ℕ) → EachRow P rows → 0 < width_in rows kind → P kind (width_in rows kind)
 among_rows P [] kind all some = absurd (omega arith)
 among_rows P (row ∷ rows) kind all some = by (λ h. among_rows P rows kind all.1 h) (row.0 == kind) refl some
   where
@@ -29,7 +29,7 @@ among_rows P (row ∷ rows) kind all some = by (λ h. among_rows P rows kind all
     by later false e h = later h
 
 -- of the kinds of texts and bytes
-bytes_kinds : (P : ℕ → Type 0) (kind : ℕ) → P 0x001E → P 0x001F → P 0x0102 → IsTrue (is_bytes_kind kind) → P kind
+pub bytes_kinds : (P : ℕ → Type 0) (kind : ℕ) → P 0x001E → P 0x001F → P 0x0102 → IsTrue (is_bytes_kind kind) → P kind
 bytes_kinds P kind a b c = by (kind == 0x001E) (kind == 0x001F) (kind == 0x0102) refl refl refl
   where
     by : (p q r : Bool) → (kind == 0x001E) ≡ p → (kind == 0x001F) ≡ q → (kind == 0x0102) ≡ r → IsTrue ((p || q) || r) → P kind

@@ -196,18 +196,18 @@ each_back : {A : Type 0} (P : A → Type 0) (xs ys : List A) → Each P (xs ++ y
 each_back P [] ys h = h
 each_back P (x ∷ xs) ys h = each_back P xs ys h.1
 
-each_push : {A : Type 0} (P : A → Type 0) (xs : List A) (y : A) → Each P xs → P y → Each P (xs ++ y ∷ [])
+pub each_push : {A : Type 0} (P : A → Type 0) (xs : List A) (y : A) → Each P xs → P y → Each P (xs ++ y ∷ [])
 each_push P [] y h g = (g, tt)
 each_push P (x ∷ xs) y h g = (h.0, each_push P xs y h.1 g)
 
-abbrev Above : Prop → List Prop → Type 0
+abbrev pub Above : Prop → List Prop → Type 0
 Above p ps = Each (λ q. prop_cmp p q ≡ Less) ps
 
-abbrev Rising : List Prop → Type 0
+abbrev pub Rising : List Prop → Type 0
 Rising [] = Unit {0}
 Rising (p ∷ ps) = Above p ps × Rising ps
 
-rising : (ps : List Prop) → IsStrictlySorted prop_cmp ps → Rising ps
+pub rising : (ps : List Prop) → IsStrictlySorted prop_cmp ps → Rising ps
 rising [] h = tt
 rising (p ∷ ps) h = (each_of (λ q. prop_cmp p q ≡ Less) ps (λ k d lt. h 0 (suc k) d (omega arith) (omega arith)), rising ps (tail_sorted prop_total p ps h))
 
@@ -344,7 +344,7 @@ length-props : (names : List Name) (ps : List Prop) → length ps ≤ length (pr
 length-props names [] = omega arith
 length-props names (p ∷ ps) = omega (arith, length-prop names p, length-props names ps, length-append (prop_bytes names p) (props_bytes names ps))
 
-each_listed : (ps : List Prop) → All IsProp ps → All (λ p. KeyHasUnits p.key) ps → Each IsListed ps
+pub each_listed : (ps : List Prop) → All IsProp ps → All (λ p. KeyHasUnits p.key) ps → Each IsListed ps
 each_listed [] h g = tt
 each_listed (p ∷ ps) h g = (record { good = h 0 p (omega arith); units = g 0 p (omega arith) }, each_listed ps (λ k d lt. h (suc k) d (omega arith)) (λ k d lt. g (suc k) d (omega arith)))
 

@@ -37,6 +37,10 @@ pub mod Place
 pub mod PlaceLaws
 pub mod Reading
 pub mod SortedElements
+pub mod ReadAttributes
+pub mod ReadLists
+pub mod ReadTnef
+pub mod ReadValues
 pub mod SortedLists
 pub mod Stream
 pub mod TableLaws

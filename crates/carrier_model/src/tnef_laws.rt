@@ -1,5 +1,6 @@
 //! Laws about what a TNEF stream means.
 ghost use Rattle.std.specs.Prelude.{◌≡◌, ◌<◌, ◌≤◌, ◌^◌, ℕ, List, [], Bool, Some, None, length};
+ghost use Rattle.carrier_model.specs.Bytes.{AllBytes};
 ghost use Rattle.carrier_model.specs.Grammar.{Means};
 ghost use Rattle.carrier_model.specs.Keys.{Name};
 ghost use Rattle.carrier_model.specs.TnefCanonical.{list_bytes, tnef_of};
@@ -35,4 +36,9 @@ pub fn canonical_tnef_means_its_tree()
     ensures means { (t : Message) → IsTree t → length (names_of t) ≤ 32000 → length (tnef_of t) < 2 ^ 32 → TnefCarrier (tnef_of t) t [] }
     ensures alone { (t other : Message) (passed : List Passed) → IsTree t → length (names_of t) ≤ 32000 → length (tnef_of t) < 2 ^ 32 → TnefCarrier (tnef_of t) other passed → (other ≡ t) × (passed ≡ []) }
     ensures faultless { (t : Message) (g : Fault) → IsTree t → length (names_of t) ≤ 32000 → length (tnef_of t) < 2 ^ 32 → TnefFault (tnef_of t) g → ⊥ }
+{}
+
+/// What a TNEF stream means is such a tree, where it is made of bytes and no longer than the greatest input.
+pub fn tnef_carriers_are_trees()
+    ensures { (bytes : List ℕ) (t : Message) (passed : List Passed) → AllBytes bytes → length bytes ≤ 0x1000_0000 → TnefCarrier bytes t passed → IsTree t }
 {}
