@@ -27,6 +27,7 @@ pub mod Messages
 pub mod MiniLaws
 pub mod MsgMessage
 pub mod MsgProps
+pub mod MsgSteps
 pub mod NameMap
 pub mod Numbers
 pub mod OneChain
@@ -48,6 +49,7 @@ pub mod Tnef
 pub mod TnefLists
 pub mod TnefMessage
 pub mod Trees
+pub mod TurnSteps
 pub mod Turns
 pub mod ViewLaws
 pub mod VisitLaws

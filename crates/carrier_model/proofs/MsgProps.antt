@@ -32,11 +32,11 @@ double_flips (embedding place) (kept q) = refl
 double_flips (embedding place) (passed tag other) = refl
 double_flips (embedding place) (embedding other) = refl
 
-abbrev AllNew : List Item → List Item → Type 0
+abbrev pub AllNew : List Item → List Item → Type 0
 AllNew before [] = Unit {0}
 AllNew before (x ∷ xs) = (is_new before x ≡ true) × AllNew (before ++ x ∷ []) xs
 
-abbrev Clear : List Item → List Item → Type 0
+abbrev pub Clear : List Item → List Item → Type 0
 Clear before xs = AllByRecursion (λ y. list_any (is_double y) before ≡ false) xs
 
 clear_split : (before : List Item) (x : Item) (xs : List Item) → Clear (before ++ x ∷ []) xs → Clear before xs × AllByRecursion (λ y. is_double x y ≡ false) xs
@@ -52,7 +52,7 @@ clear_join before x [] c d = tt
 clear_join before x (y ∷ ys) c d =
     (list_any-append (is_double y) before (x ∷ []) ∙ or_from _ _ c.0 (or_from (is_double y x) false (double_flips y x ∙ d.0) refl), clear_join before x ys c.1 d.1)
 
-new_distinct : (before xs : List Item) → AllNew before xs → IsDistinct is_double xs × Clear before xs
+pub new_distinct : (before xs : List Item) → AllNew before xs → IsDistinct is_double xs × Clear before xs
 unfolding IsDistinct
 new_distinct before [] n = (tt, tt)
 new_distinct before (x ∷ xs) n =
@@ -60,12 +60,12 @@ new_distinct before (x ∷ xs) n =
     let split = clear_split before x xs rest.1 in
     ((split.1, rest.0), (not-true _ n.0, split.0))
 
-distinct_new : (before xs : List Item) → IsDistinct is_double xs → Clear before xs → AllNew before xs
+pub distinct_new : (before xs : List Item) → IsDistinct is_double xs → Clear before xs → AllNew before xs
 unfolding IsDistinct
 distinct_new before [] d c = tt
 distinct_new before (x ∷ xs) d c = (not_from_false _ c.0, distinct_new (before ++ x ∷ []) xs d.1 (clear_join before x xs c.1 d.0))
 
-nothing_clear : (xs : List Item) → Clear [] xs
+pub nothing_clear : (xs : List Item) → Clear [] xs
 nothing_clear [] = tt
 nothing_clear (x ∷ xs) = (refl, nothing_clear xs)
 
@@ -83,7 +83,7 @@ items_apart p (kept q ∷ xs) d = (d.0, items_apart p xs d.1)
 items_apart p (passed tag place ∷ xs) d = (refl, items_apart p xs d)
 items_apart p (embedding place ∷ xs) d = (refl, items_apart p xs d)
 
-props_distinct : (xs : List Item) → IsDistinct is_double xs → IsDistinct (equal_by prop_cmp) (filter_map prop_in xs)
+pub props_distinct : (xs : List Item) → IsDistinct is_double xs → IsDistinct (equal_by prop_cmp) (filter_map prop_in xs)
 unfolding IsDistinct
 props_distinct [] d = tt
 props_distinct (kept p ∷ xs) d = (props_apart p xs d.0, props_distinct xs d.1)
@@ -139,7 +139,7 @@ module _ (part : Part) (pairs : List Pair) (streams : Streams) where
   unfolding next_item
   next_item-only before e x there new = bind_from (item_of part pairs streams e) _ x there ∙ check_from (is_new before x) DUPLICATE_PROPERTY e.place _ new
 
-  items-sound : (before : List Item) (es : List PropEntry) (xs : List Item) → AllGive (next_item part pairs streams) before es xs → AllZip (λ e x. item_of part pairs streams e ≡ Ok x) es xs × AllNew before xs
+  pub items-sound : (before : List Item) (es : List PropEntry) (xs : List Item) → AllGive (next_item part pairs streams) before es xs → AllZip (λ e x. item_of part pairs streams e ≡ Ok x) es xs × AllNew before xs
   items-sound before [] [] h = (tt, tt)
   items-sound before [] (x ∷ xs) h = absurd h
   items-sound before (e ∷ es) [] h = absurd h

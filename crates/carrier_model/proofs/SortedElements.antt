@@ -68,3 +68,8 @@ module _ {A : Type 0} {R : A → A → Ordering} (o : IsTotalOrder R) where
   elements_good ps d =
       let good = with_elements_good ps [] nothing_sorted (subst (IsDistinct (equal_by R)) (sym (append-nil ps)) d) in
       (good.0, subst (λ (l : List A). IsPermutation l (with_elements R [] ps)) (append-nil ps) good.1)
+
+-- one more of some elements
+pub with_elements-push : {A : Type 0} (R : A → A → Ordering) (m ps : List A) (p : A) → with_elements R m (ps ++ p ∷ []) ≡ with_element R (with_elements R m ps) p
+with_elements-push R m [] p = refl
+with_elements-push R m (q ∷ ps) p = with_elements-push R (with_element R m q) ps p

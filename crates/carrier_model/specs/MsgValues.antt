@@ -1,5 +1,5 @@
--- The values of properties in a .msg file: in the entry of the property, or in streams beside it. Texts stand without
--- nulls; a null is dropped of each text of a multiple value. [MS-OXMSG 2.1.2 to 2.1.4, 2.4.2; MS-OXCDATA 2.11]
+-- The values of properties in a .msg file: in the entry of the property, or in streams beside it. A single text is taken
+-- whole; of each text of a multiple value one null is dropped. [MS-OXMSG 2.1.2 to 2.1.4, 2.4.2; MS-OXCDATA 2.11]
 use Rattle.std.specs.Prelude.{ℕ, ◌-◌, ◌*◌, ◌/◌, ◌%◌, ◌==◌, Bool, not, ◌&&◌, ◌||◌, if◌then◌else◌, List, [], ◌++◌, length, map, take, drop, Option, Some, None, is_some, Result, Ok}
 use Rattle.std.specs.List.{range_with_len}
 use Rattle.carrier_model.specs.Trail.{Fault, Test, test}

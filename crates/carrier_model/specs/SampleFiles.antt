@@ -1,5 +1,5 @@
 -- Small files, of which computed rows speak.
-use Rattle.std.specs.Prelude.{ℕ, ◌+◌, List, [], ◌∷◌, ◌++◌, length, replicate, take, drop, codes}
+use Rattle.std.specs.Prelude.{ℕ, ◌+◌, List, [], ◌∷◌, ◌++◌, length, take, drop, codes}
 use Rattle.std.specs.List.{range_with_len}
 use Rattle.carrier_model.specs.Bytes.{le32}
 use Rattle.carrier_model.specs.KeyTexts.{label_family}
