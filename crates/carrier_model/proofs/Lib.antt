@@ -31,6 +31,7 @@ pub mod MsgSteps
 pub mod NameMap
 pub mod Numbers
 pub mod OneChain
+pub mod OrderLaws
 pub mod Orders
 pub mod Pairs
 pub mod Parameters

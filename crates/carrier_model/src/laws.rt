@@ -1,19 +1,12 @@
 //! Laws about the definitions.
 ghost use Rattle.std.specs.Prelude.{◌≡◌, ◌<◌, ◌^◌, ℕ, List, All, length};
-ghost use Rattle.std.specs.Cmp.{IsTotalOrder};
 ghost use Rattle.carrier_model.specs.Attributes.{Attrs, AttrsFault};
 ghost use Rattle.carrier_model.specs.Jobs.{Accepts, FaultOf};
-ghost use Rattle.carrier_model.specs.Keys.{key_cmp};
 ghost use Rattle.carrier_model.specs.Lists.{ListMeans, ListFault, IsBuilt};
 ghost use Rattle.carrier_model.specs.Sorted.{IsStrictlySorted};
 ghost use Rattle.carrier_model.specs.Tnef.{tnef_of, page_of, message_of, TnefMeans, TnefFault};
 ghost use Rattle.carrier_model.specs.Trail.{IsExact};
 ghost use Rattle.carrier_model.specs.Values.{Prop, prop_cmp};
-
-/// Keys are totally ordered.
-pub fn keys_are_ordered()
-    ensures { IsTotalOrder key_cmp }
-{}
 
 /// A stream is one list of attributes, or has one first fault, and not both.
 pub fn attributes_are_exact()

@@ -7,6 +7,7 @@ mod laws;
 mod msg_laws;
 mod msg_read_rows;
 mod msg_rows;
+mod order_laws;
 mod text_rows;
 mod tnef_laws;
 
@@ -15,8 +16,8 @@ pub use file_laws::{
     the_list_is_longest,
 };
 pub use laws::{
-    acceptance_is_exact, attributes_are_exact, canonical_means_the_message, keys_are_ordered,
-    lists_are_exact, messages_are_exact,
+    acceptance_is_exact, attributes_are_exact, canonical_means_the_message, lists_are_exact,
+    messages_are_exact,
 };
 pub use msg_laws::{
     files_mean_one_message, lists_of_storages_are_exact, messages_of_files_are_exact,
@@ -29,6 +30,7 @@ pub use msg_rows::{
     canonical_tnef_of_small_messages, the_entry_of_one_property, the_file_of_an_empty_message,
     the_files_at_the_cutoff, the_least_table, the_map_of_one_name,
 };
+pub use order_laws::{keys_are_ordered, names_are_ordered, properties_are_ordered};
 pub use text_rows::{
     commands_by_their_words, lines_of_ends, texts_of_one_property, the_first_sample,
 };

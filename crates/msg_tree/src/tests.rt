@@ -118,6 +118,15 @@ fn sample<B: Blob>(alloc: Global, first: B, second: B, third: B) -> Result<Messa
     Ok(top)
 }
 
+/// What is in the sample.
+const IN_SAMPLE: Counts = Counts {
+    messages: 2,
+    recipients: 1,
+    attachments: 2,
+    properties: 5,
+    depth: 1,
+};
+
 // What every call answers on the sample, whatever its blobs are.
 fn every_call<B: Blob>(
     rt: &impl Abort,
@@ -141,14 +150,8 @@ fn every_call<B: Blob>(
         }),
         Some(0)
     );
-    let expected = Counts {
-        messages: 2,
-        recipients: 1,
-        attachments: 2,
-        properties: 5,
-        depth: 1,
-    };
-    assert_eq!(rt; counts(&tree), expected);
+    assert_eq!(rt; counts(&tree), IN_SAMPLE);
+    assert_eq!(rt; counts(&copy), IN_SAMPLE);
     let accepted = Accepted {
         tree,
         passed: PassedList::new(alloc),

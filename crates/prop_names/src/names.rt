@@ -1,5 +1,5 @@
 //! Names of properties.
-ghost use Rattle.std.specs.Prelude.{◌≡◌, IfOk};
+ghost use Rattle.std.specs.Prelude.{◌≡◌, ◌↔◌, IfOk};
 ghost use Rattle.carrier_model.specs.Keys.{name_cmp, label_cmp, set_of};
 ghost use Rattle.prop_names.specs.Meaning.{name_of};
 
@@ -31,7 +31,8 @@ impl Name {
 
     /// By the GUID's bytes, then numbers by value before texts unit by unit.
     pub fn order(&self, other: &Name) -> Ordering
-        ensures { result ≡ name_cmp (name_of self.now) (name_of other.now) }
+        ensures order { result ≡ name_cmp (name_of self.now) (name_of other.now) }
+        ensures equal { (result ≡ Ordering.Equal) ↔ (name_of self.now ≡ name_of other.now) }
     {
         let one = self.set();
         let two = other.set();

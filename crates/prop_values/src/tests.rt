@@ -1,9 +1,46 @@
-ghost use Rattle.std.specs.Prelude.{◌<◌, ◌^◌};
+ghost use Rattle.std.specs.Prelude.{◌<◌, ◌^◌, length};
 
+use crate::compare::{same_prop, same_props};
 use crate::{Guids, InsertEnd, Kind, Parts, Prop, Props, Value, kind_of};
+use carrier_io::{Blob, same_bytes};
 use prop_names::{Guid, Key};
+use std::alloc::Global;
 use std::cmp::Ordering;
+use std::process::Abort;
 use std::test::*;
+
+/// Bytes in two borrowed pieces.
+#[derive(Clone, Copy)]
+struct Halves<'a> {
+    first: &'a [u8],
+    second: &'a [u8],
+    ghost fits: { length first.now < 0x1000 },
+    ghost fits_second: { length second.now < 0x1000 },
+}
+
+impl<'a> Blob for Halves<'a> {
+    ghost use Rattle.std.specs.Prelude.{ℕ, List, refl, ◌++◌, [], ◌∷◌, slice_index_or};
+
+    ghost bytes = { λ h. h.first.now ++ h.second.now };
+
+    ghost count = { λ _. 2 };
+
+    ghost part = { λ h k. slice_index_or (h.first.now ∷ h.second.now ∷ []) k [] };
+
+    ghost joins = { λ _. refl };
+
+    fn len(&self) -> usize {
+        self.first.len() + self.second.len()
+    }
+
+    fn pieces(&self) -> usize {
+        2
+    }
+
+    fn piece(&self, k: usize) -> &[u8] {
+        if k == 0 { self.first } else { self.second }
+    }
+}
 
 fn integer(id: u16, bits: u64) -> Prop<Vec<u8>>
     requires id { id < 0x8000 }
@@ -18,16 +55,30 @@ fn integer(id: u16, bits: u64) -> Prop<Vec<u8>>
     }
 }
 
+fn binary<B: Blob>(id: u16, bytes: B) -> Prop<B>
+    requires id { id < 0x8000 }
+    requires short { length (B.bytes bytes) < 0x4000_0000 }
+{
+    Prop {
+        key: Key::Id(id),
+        value: Value::Bytes {
+            kind: Kind::Binary,
+            bytes,
+        },
+    }
+}
+
 #[test]
 fn a_double_comes_back(rt: HostRuntime) -> Result<(), Fail> {
     let mut list = Props::new(rt.alloc());
     assert!(rt; list.insert_sorted(integer(0x0017, 1)).is_ok());
     let handed_back = match list.insert_sorted(integer(0x0017, 2)) {
-        Err(InsertEnd::Duplicate(prop)) => prop.has_id(0x0017),
+        Err(InsertEnd::Duplicate(prop)) => same_prop(&prop, &integer(0x0017, 2)),
         _ => false,
     };
     assert!(rt; handed_back);
     assert_eq!(rt; list.len(), 1);
+    assert!(rt; same_prop(list.get(0), &integer(0x0017, 1)));
     assert_eq!(rt; list.find(&Key::Id(0x0017), Kind::Integer32), Some(0));
     assert_eq!(rt; list.find(&Key::Id(0x0017), Kind::Integer16), None);
     assert!(rt; list.has_id(0x0017));
@@ -37,16 +88,51 @@ fn a_double_comes_back(rt: HostRuntime) -> Result<(), Fail> {
 }
 
 #[test]
-fn lists(rt: HostRuntime) -> Result<(), Fail> {
+fn guids(rt: HostRuntime) -> Result<(), Fail> {
     let mut guids = Guids::new(rt.alloc());
     guids.push(Guid([1; 16])).ok().ok_or("no memory")?;
     assert_eq!(rt; guids.len(), 1);
     assert_eq!(rt; *guids.get(0), Guid([1; 16]));
-    let bytes = [1u8, 2];
-    let mut parts = Parts::new(rt.alloc());
-    parts.push(bytes.as_slice()).ok().ok_or("no memory")?;
+    Ok(())
+}
+
+/// What the lists answer on four bytes, whatever blob they are.
+fn every_list<B: Blob>(
+    rt: &impl Abort,
+    alloc: Global,
+    part: B,
+    value: B,
+) -> Result<Props<Vec<u8>>, Fail>
+    requires { length (B.bytes value) < 0x4000_0000 }
+{
+    let mut parts = Parts::new(alloc);
+    parts.push(part).ok().ok_or("no memory")?;
     assert_eq!(rt; parts.len(), 1);
-    assert_eq!(rt; *parts.get(0), bytes.as_slice());
+    assert!(rt; same_bytes(parts.get(0), &[1u8, 2, 3, 4].as_slice()));
+    let mut list = Props::new(alloc);
+    list.insert_sorted(binary(0x1013, value))
+        .ok()
+        .ok_or("no memory")?;
+    assert_eq!(rt; list.find(&Key::Id(0x1013), Kind::Binary), Some(0));
+    let copy = list.copy_owned(alloc).ok().ok_or("no memory")?;
+    assert!(rt; same_props(&list, &copy));
+    Ok(copy)
+}
+
+#[test]
+fn lists_of_three_blobs(rt: HostRuntime) -> Result<(), Fail> {
+    let alloc = rt.alloc();
+    let bytes = [1u8, 2, 3, 4];
+    let halves = Halves {
+        first: &bytes[..1],
+        second: &bytes[1..],
+    };
+    let whole = bytes.as_slice();
+    let cut = every_list(&rt, alloc, halves, halves)?;
+    let borrowed = every_list(&rt, alloc, whole, whole)?;
+    let owned = every_list(&rt, alloc, whole.to_vec(alloc)?, whole.to_vec(alloc)?)?;
+    assert!(rt; same_props(&cut, &borrowed));
+    assert!(rt; same_props(&cut, &owned));
     Ok(())
 }
 
