@@ -39,6 +39,7 @@ pub mod ReportTexts
 pub mod SampleFiles
 pub mod SampleTrees
 pub mod Sectors
+pub mod SmallestFile
 pub mod Sorted
 pub mod Streams
 pub mod Tables

@@ -3,6 +3,7 @@
 #![tactic(auto)]
 
 mod file_laws;
+mod file_rows;
 mod laws;
 mod msg_laws;
 mod msg_read_rows;
@@ -15,6 +16,7 @@ pub use file_laws::{
     chains_are_exact, claims_are_exact, files_are_exact, links_are_exact, loads_are_exact,
     the_list_is_longest,
 };
+pub use file_rows::{faults_of_changed_chains, faults_of_changed_entries, the_smallest_file_opens};
 pub use laws::{
     acceptance_is_exact, attributes_are_exact, canonical_means_the_message, lists_are_exact,
     messages_are_exact,

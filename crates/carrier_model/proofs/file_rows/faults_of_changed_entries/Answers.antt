@@ -1,0 +1,28 @@
+use Rattle.std.specs.Prelude.{refl}
+use Rattle.carrier_model.specs.Chains.{longest, chain_of}
+use Rattle.carrier_model.specs.Files.{family_names, names_of, claims_of, opened_of}
+use Rattle.carrier_model.specs.Links.{visited, visit}
+use Rattle.carrier_model.specs.Loads.{tables_of, long_chain_of, short_chain_of, mini_of, load_of, claim_of}
+use Rattle.carrier_model.specs.Sectors.{u16_of, u32_of, word_offset}
+use Rattle.carrier_model.specs.Tables.{header_of, sector_of, difat_of, fat_sectors_of}
+use Rattle.carrier_model.proofs.file_rows.faults_of_changed_entries.Goals as goal
+
+pub returns-clause-shared : goal.returns-clause-shared
+unfolding longest chain_of family_names names_of claims_of opened_of visited visit tables_of long_chain_of short_chain_of mini_of load_of claim_of u16_of u32_of word_offset header_of sector_of difat_of fat_sectors_of
+returns-clause-shared c = refl
+
+pub returns-clause-absent : goal.returns-clause-absent
+unfolding longest chain_of family_names names_of claims_of opened_of visited visit tables_of long_chain_of short_chain_of mini_of load_of claim_of u16_of u32_of word_offset header_of sector_of difat_of fat_sectors_of
+returns-clause-absent c = refl
+
+pub returns-clause-kind : goal.returns-clause-kind
+unfolding longest chain_of family_names names_of claims_of opened_of visited visit tables_of long_chain_of short_chain_of mini_of load_of claim_of u16_of u32_of word_offset header_of sector_of difat_of fat_sectors_of
+returns-clause-kind c = refl
+
+pub returns-clause-double : goal.returns-clause-double
+unfolding longest chain_of family_names names_of claims_of opened_of visited visit tables_of long_chain_of short_chain_of mini_of load_of claim_of u16_of u32_of word_offset header_of sector_of difat_of fat_sectors_of
+returns-clause-double c = refl
+
+pub returns-clause-name : goal.returns-clause-name
+unfolding longest chain_of family_names names_of claims_of opened_of visited visit tables_of long_chain_of short_chain_of mini_of load_of claim_of u16_of u32_of word_offset header_of sector_of difat_of fat_sectors_of
+returns-clause-name c = refl

@@ -1,0 +1,20 @@
+use Rattle.std.specs.Prelude.{refl}
+use Rattle.carrier_model.specs.Chains.{longest, chain_of}
+use Rattle.carrier_model.specs.Files.{family_names, names_of, claims_of, opened_of}
+use Rattle.carrier_model.specs.Links.{visited, visit}
+use Rattle.carrier_model.specs.Loads.{tables_of, long_chain_of, short_chain_of, mini_of, load_of, claim_of}
+use Rattle.carrier_model.specs.Sectors.{u16_of, u32_of, word_offset}
+use Rattle.carrier_model.specs.Tables.{header_of, sector_of, difat_of, fat_sectors_of}
+use Rattle.carrier_model.proofs.file_rows.the_smallest_file_opens.Goals as goal
+
+pub returns-clause-children : goal.returns-clause-children
+unfolding longest chain_of family_names names_of claims_of opened_of visited visit tables_of long_chain_of short_chain_of mini_of load_of claim_of u16_of u32_of word_offset header_of sector_of difat_of fat_sectors_of
+returns-clause-children c = refl
+
+pub returns-clause-stream : goal.returns-clause-stream
+unfolding longest chain_of family_names names_of claims_of opened_of visited visit tables_of long_chain_of short_chain_of mini_of load_of claim_of u16_of u32_of word_offset header_of sector_of difat_of fat_sectors_of
+returns-clause-stream c = refl
+
+pub returns-clause-steps : goal.returns-clause-steps
+unfolding longest chain_of family_names names_of claims_of opened_of visited visit tables_of long_chain_of short_chain_of mini_of load_of claim_of u16_of u32_of word_offset header_of sector_of difat_of fat_sectors_of
+returns-clause-steps c = refl
