@@ -1,3 +1,4 @@
+pub mod Acceptance
 pub mod Apart
 pub mod Attributes
 pub mod Built
@@ -37,12 +38,12 @@ pub mod Pairs
 pub mod Parameters
 pub mod Place
 pub mod PlaceLaws
-pub mod Reading
-pub mod SortedElements
 pub mod ReadAttributes
 pub mod ReadLists
 pub mod ReadTnef
 pub mod ReadValues
+pub mod Reading
+pub mod SortedElements
 pub mod SortedLists
 pub mod Stream
 pub mod TableLaws

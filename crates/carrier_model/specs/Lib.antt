@@ -1,3 +1,4 @@
+pub mod Acceptance
 pub mod Attributes
 pub mod Base64
 pub mod Bytes

@@ -4,6 +4,7 @@
 
 mod file_laws;
 mod file_rows;
+mod job_laws;
 mod laws;
 mod msg_laws;
 mod msg_read_rows;
@@ -17,6 +18,7 @@ pub use file_laws::{
     the_list_is_longest,
 };
 pub use file_rows::{faults_of_changed_chains, faults_of_changed_entries, the_smallest_file_opens};
+pub use job_laws::jobs_are_exact;
 pub use laws::{
     acceptance_is_exact, attributes_are_exact, canonical_means_the_message, lists_are_exact,
     messages_are_exact,
