@@ -25,14 +25,14 @@ use Rattle.carrier_model.proofs.CanonicalKinds.{value_spells, one_spells, IsList
 
 -- ---- names
 
-units_again : (units : List ℕ) → All (λ unit. unit < 2 ^ 16) units → units_of (unit_bytes units) ≡ units
+pub units_again : (units : List ℕ) → All (λ unit. unit < 2 ^ 16) units → units_of (unit_bytes units) ≡ units
 units_again [] h = refl
 units_again (u ∷ units) h =
     let here : u % 256 + 256 * (u / 256 % 256) ≡ u = let lt : u < 2 ^ 16 = h 0 u (omega arith) in omega arith in
     let rest : units_of (unit_bytes units) ≡ units = units_again units (λ k d lt. h (suc k) d (omega arith)) in
     λ i. here i ∷ rest i
 
-length-units : (units : List ℕ) → length (unit_bytes units) ≡ 2 * length units
+pub length-units : (units : List ℕ) → length (unit_bytes units) ≡ 2 * length units
 length-units [] = refl
 length-units (u ∷ units) = let h = length-units units in omega arith
 

@@ -55,3 +55,4 @@ pub mod TurnSteps
 pub mod Turns
 pub mod ViewLaws
 pub mod VisitLaws
+pub mod WrittenNames

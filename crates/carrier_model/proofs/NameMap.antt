@@ -62,12 +62,12 @@ name_of-only s e (texted set units) (kind, known, is, there) =
 -- ---- one entry
 
 -- what an entry has for a name
-HasName : NameStreams → NameEntry → Option Name → Type 0
+abbrev pub HasName : NameStreams → NameEntry → Option Name → Type 0
 HasName s e None = set_index e ≡ 0
 HasName s e (Some n) = (set_index e ≢ 0) × StandsFor s e n
 
 named_by-sound : (s : NameStreams) (e : NameEntry) (o : Option Name) → named_by s e ≡ Ok o → HasName s e o
-unfolding named_by HasName
+unfolding named_by
 named_by-sound s e o h = by (set_index e == 0) refl o h
   where
     by : (b : Bool) → (set_index e == 0) ≡ b → (o : Option Name) → (if b then Ok None else mapped Some (name_of s e)) ≡ Ok o → HasName s e o
@@ -77,11 +77,11 @@ named_by-sound s e o h = by (set_index e == 0) refl o h
     by false is (Some n) h = let (m, there, same) = mapped_ok Some (name_of s e) (Some n) h in let e2 : m ≡ n = cc in (eqb-false _ _ is, name_of-sound s e n (there ∙ ap Ok e2))
 
 named_by-only : (s : NameStreams) (e : NameEntry) (o : Option Name) → HasName s e o → named_by s e ≡ Ok o
-unfolding named_by HasName
+unfolding named_by
 named_by-only s e None h = cond-true (set_index e == 0) _ _ (eq-eqb _ _ h)
 named_by-only s e (Some n) h = cond-false (set_index e == 0) _ _ (ne_eqb _ _ h.0) ∙ ap (mapped Some) (name_of-only s e n h.1)
 
-abbrev indexes : List Given → List ℕ
+abbrev pub indexes : List Given → List ℕ
 indexes = map (λ g. g.index)
 
 given_by-sound : (s : NameStreams) (before : List Given) (e : NameEntry) (g : Given) → given_by s before e ≡ Ok g → (property_index e ≤ 0x7FFF) × (member (property_index e) (indexes before) ≡ false) × (g.index ≡ property_index e) × HasName s e g.name
@@ -93,7 +93,7 @@ given_by-sound s before e g h =
     let same : g ≡ record { index = property_index e; name = o } = ok_same (Ok _) _ g refl is in
     (leb-true _ _ a.0, not-true _ b.0, ap (λ (x : Given). x.index) same, subst (HasName s e) (sym (ap (λ (x : Given). x.name) same)) (named_by-sound s e o there))
 
-given_by-only : (s : NameStreams) (before : List Given) (e : NameEntry) (o : Option Name) → property_index e ≤ 0x7FFF → member (property_index e) (indexes before) ≡ false → HasName s e o → given_by s before e ≡ Ok (record { index = property_index e; name = o })
+pub given_by-only : (s : NameStreams) (before : List Given) (e : NameEntry) (o : Option Name) → property_index e ≤ 0x7FFF → member (property_index e) (indexes before) ≡ false → HasName s e o → given_by s before e ≡ Ok (record { index = property_index e; name = o })
 unfolding given_by
 given_by-only s before e o low new h =
     check_from (nat_le (property_index e) 0x7FFF) BAD_PROPERTY_INDEX e.place _ (le-leb _ _ low)
@@ -107,7 +107,6 @@ skip s e es [] zero rest = (zero, rest)
 skip s e es (p ∷ pairs) zero rest = inl (zero, rest)
 
 with_one : (s : NameStreams) (e : NameEntry) (es : List NameEntry) (g : Given) (gs : List Given) → g.index ≡ property_index e → HasName s e g.name → ArePairs s es (filter_map pair_in gs) → ArePairs s (e ∷ es) (filter_map pair_in (g ∷ gs))
-unfolding HasName
 with_one s e es g gs is has rest = by g.name refl has
   where
     by : (o : Option Name) → g.name ≡ o → HasName s e o → ArePairs s (e ∷ es) (filter_map pair_in (g ∷ gs))
@@ -140,7 +139,6 @@ Later s before e es = (o : Option Name) (rest : List Pair) → IsDistinct eqb (i
 
 entries-only : (s : NameStreams) (before : List Given) (es : List NameEntry) (pairs : List Pair) → AllByRecursion (λ e. property_index e ≤ 0x7FFF) es → IsDistinct eqb (indexes before ++ map property_index es) → ArePairs s es pairs
     → (gs : List Given) × AllGive (given_by s) before es gs × (pairs ≡ filter_map pair_in gs)
-unfolding HasName
 entries-only s before [] pairs lows apart each = ([], tt, each)
 entries-only s before (e ∷ es) pairs lows apart each = by (λ o rest d after. entries-only s (before ++ given e o ∷ []) es rest lows.1 d after) pairs each
   where

@@ -34,6 +34,7 @@ pub mod MsgValues
 pub mod NameMap
 pub mod Outcomes
 pub mod Places
+pub mod ReadBack
 pub mod ReasonNames
 pub mod Reasons
 pub mod ReportTexts

@@ -104,6 +104,11 @@ pair_in g = option_map (λ name. (0x8000 + g.index, name)) g.name
 unfoldable pub pairs_of : NameStreams → Result (List Pair) Fault
 pairs_of s = mapped (filter_map pair_in) (in_turn (given_by s) [] (name_entries s.entries))
 
+-- the pairs of names whose ids follow one another
+abbrev pub pairs_from : ℕ → List Name → List Pair
+pairs_from k [] = []
+pairs_from k (name ∷ names) = (0x8000 + k, name) ∷ pairs_from (k + 1) names
+
 -- the name of an id
 abbrev pub name_for : List Pair → ℕ → Option Name
 name_for pairs n = option_map (λ p. p.1) (find (λ p. nat_eq p.0 n) pairs)

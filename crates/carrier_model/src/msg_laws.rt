@@ -4,7 +4,9 @@ ghost use Rattle.carrier_model.specs.Files.{Files};
 ghost use Rattle.carrier_model.specs.MsgMessage.{files_meaning, file_meaning, FilesMean, MsgCarrier, MsgFault};
 ghost use Rattle.carrier_model.specs.MsgProps.{Part, Section, MsgProps, props_of};
 ghost use Rattle.carrier_model.specs.MsgValues.{Streams};
-ghost use Rattle.carrier_model.specs.NameMap.{NameStreams, Pair, NamePairs, pairs_of};
+ghost use Rattle.carrier_model.specs.NameMap.{NameStreams, Pair, NamePairs, pairs_of, pairs_from};
+ghost use Rattle.carrier_model.specs.Keys.{Name};
+ghost use Rattle.carrier_model.specs.ReadBack.{AreNames, HasNameMap};
 ghost use Rattle.carrier_model.specs.Sectors.{is_size};
 ghost use Rattle.carrier_model.specs.TnefMessage.{Meaning};
 ghost use Rattle.carrier_model.specs.Trail.{IsExact};
@@ -39,4 +41,9 @@ pub fn msg_carriers_are_exact()
     ensures sound { (z : ℕ) (b : List ℕ) (m : Meaning) → file_meaning z b ≡ Ok m → MsgCarrier z b m.message m.passed }
     ensures only { (z : ℕ) (b : List ℕ) (m : Meaning) → IsTrue (is_size z) → length b ≤ 268435456 → MsgCarrier z b m.message m.passed → file_meaning z b ≡ Ok m }
     ensures exact { (z : ℕ) (b : List ℕ) → IsTrue (is_size z) → length b ≤ 268435456 → IsExact (λ (m : Meaning). MsgCarrier z b m.message m.passed) (MsgFault z b) }
+{}
+
+/// The name map that is written is read back: the k-th name, from 0, has the id 8000 plus k.
+pub fn written_names_are_read()
+    ensures { (s : NameStreams) (names : List Name) → AreNames names → HasNameMap s names → pairs_of s ≡ Ok (pairs_from 0 names) }
 {}
