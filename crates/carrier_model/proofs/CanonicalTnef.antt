@@ -2,10 +2,10 @@
 use Rattle.std.proofs.Common.{◌≡◌, ◌⊎◌, inl, inr, ℕ, zero, suc, ◌+◌, ◌<◌, ◌≤◌, ◌^◌, Bool, true, false, cond, List, [], ◌∷◌, ◌++◌, length, take, drop, map, reverse, replicate, refl, sym, ap, subst, ◌∙◌, append_assoc, arith}
 use Rattle.std.specs.List.{flat_map, list_any, cons_option, prefix_len, take_while}
 use Rattle.std.specs.Option.{option_map}
-use Rattle.std.specs.Prelude.{◌==◌, ◌||◌, ◌&&◌, All, Option, Some, None, unwrap_or, filter, filter_map, find, not, zip}
+use Rattle.std.specs.Prelude.{nat_lt, ◌==◌, ◌||◌, ◌&&◌, All, Option, Some, None, unwrap_or, filter, filter_map, find, not, zip}
 use Rattle.std.proofs.lemmas.List.{append-nil, length-append, reverse-append}
 use Rattle.std.proofs.lemmas.List.Folds.{list_any-append}
-use Rattle.std.proofs.lemmas.Bool.{eqb-true, eq-eqb}
+use Rattle.std.proofs.lemmas.Bool.{eqb-true, eq-eqb, ltb-false}
 use Rattle.std.proofs.lemmas.Bool.Decides.{nat_tests}
 use Rattle.carrier_model.specs.Bytes.{le16, le32, sum16}
 use Rattle.carrier_model.specs.Trail.{Fault, first_fault}
@@ -20,6 +20,10 @@ use Rattle.carrier_model.specs.Trees.{IsPropList, HasPropLists, HavePropLists, B
 use Rattle.carrier_model.specs.LegacyAttributes.{VERSION, CODE_PAGE, MESSAGE_PROPS, RECIPIENTS, RENDERING, ATTACHMENT, Rule, page, position, value_by, is_message_id, is_attachment_id, legacy_prop}
 use Rattle.carrier_model.specs.TnefLists.{PropList, prop_list, recipient_lists, many}
 use Rattle.carrier_model.specs.TnefMessage.{Passed, Meaning, Gift, no_gift, message_list, recipients, attachment, Part, part, with_inner, inner_of, content, has_attr, is_there, place_tests, Stands, AllStand, Read, props_in, recipients_in, body_in, or_else, body_among, derived, has_key_of, joined, beside, attached_by, groups, message_by, meaning_by, StreamMeans, stream, IID_MESSAGE, interface_tests, object_with, behind_interface, too_deep, message_within, GREATEST_LEVEL, TnefCarrier, TnefFault}
+use Rattle.carrier_model.specs.Limits.{Limit, too_many_names, too_large, where_passed, first_limit}
+use Rattle.carrier_model.specs.Targets.{MOST_BYTES, passed_size, passed_limit}
+use Rattle.carrier_model.specs.Totals.{capped}
+use Rattle.carrier_model.specs.Commands.{to_tnef}
 use Rattle.carrier_model.specs.TnefCanonical.{list_bytes, attribute, bits_in, integer_or, front, page_attribute, recipients_attribute, props_attribute, rendering_attribute, stream_of, attachments_bytes, content_of, tnef_of}
 use Rattle.carrier_model.proofs.TnefMessage.{message_exact}
 use Rattle.carrier_model.proofs.CanonicalValues.{then_spells, seen_spells, SpellsAll, many_spells}
@@ -559,3 +563,18 @@ tree_alone t other passed h few lt c =
 
 pub tree_faultless : (t : Message) (g : Fault) → IsTree t → length (names_of t) ≤ 32000 → length (tnef_of t) < 2 ^ 32 → TnefFault (tnef_of t) g → ⊥
 tree_faultless t g h few lt f = (message_exact GREATEST_LEVEL 0 (tnef_of t)).apart (meaning_of t) g (tree_means t h few lt) f
+
+-- a limit that is not passed
+not_passed : (most n : ℕ) (limit : Limit) (others : List Limit) → first_limit (where_passed (nat_lt most n) limit ++ others) ≡ None → (n ≤ most) × (first_limit others ≡ None)
+not_passed most n limit others h = by (nat_lt most n) refl h
+  where
+    by : (b : Bool) → nat_lt most n ≡ b → first_limit (where_passed b limit ++ others) ≡ None → (n ≤ most) × (first_limit others ≡ None)
+    by true e g = absurd cc
+    by false e g = (ltb-false most n e, g)
+
+pub tree_within : (t : Message) (b : List ℕ) → IsTree t → passed_limit to_tnef t b ≡ None → TnefCarrier (tnef_of t) t []
+tree_within t b h e =
+    let names = not_passed 32000 (length (names_of t)) (too_many_names (length (names_of t))) (passed_size (tnef_of t)) e in
+    let whole : first_limit (passed_size (tnef_of t) ++ []) ≡ None = ap first_limit (append-nil (passed_size (tnef_of t))) ∙ names.1 in
+    let size = not_passed MOST_BYTES (length (tnef_of t)) (too_large (capped (length (tnef_of t)))) [] whole in
+    tree_means t h names.0 (omega (arith, size.0))

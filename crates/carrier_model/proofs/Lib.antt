@@ -39,7 +39,10 @@ pub mod Parameters
 pub mod Place
 pub mod PlaceLaws
 pub mod ReadAttributes
+pub mod ReadFiles
 pub mod ReadLists
+pub mod ReadMsg
+pub mod ReadMsgMessage
 pub mod ReadTnef
 pub mod ReadValues
 pub mod Reading

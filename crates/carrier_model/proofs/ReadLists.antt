@@ -18,7 +18,7 @@ use Rattle.carrier_model.proofs.ReadValues.{Fit, fit_front, fit_back, part_lengt
 
 -- ---- names and keys
 
-units_below : (x : List ℕ) → AllBytes x → Each (λ unit. unit < 2 ^ 16) (units_of x)
+pub units_below : (x : List ℕ) → AllBytes x → Each (λ unit. unit < 2 ^ 16) (units_of x)
 units_below [] h = tt
 units_below (low ∷ []) h = tt
 units_below (low ∷ high ∷ x) h =

@@ -30,7 +30,7 @@ pub record Fits (n : ℕ) (m : Message) : Type 0 where
   pub lists : HasPropLists m
   pub levels : depth m ≤ n
 
-abbrev BodyFits : ℕ → Body → Type 0
+abbrev pub BodyFits : ℕ → Body → Type 0
 BodyFits n nothing = Unit {0}
 BodyFits n (embedded inner) = HasPropLists inner × (depth inner + 1 ≤ n)
 
@@ -357,19 +357,19 @@ rows_good n (r ∷ reads) h = by r.1.gift h.0.part.fits (rows_good n reads h.1)
     by (recipients lists) f rest = all_lists lists (flat_map (λ (r : Read). recipients_in r.1.gift) reads) f rest
     by (attachment props body) f rest = rest
 
-record AttachmentsFit (n : ℕ) (attachments : Attachments) : Type 0 where
-  lists : HavePropLists attachments
-  levels : depth_in attachments ≤ n
+pub record AttachmentsFit (n : ℕ) (attachments : Attachments) : Type 0 where
+  pub lists : HavePropLists attachments
+  pub levels : depth_in attachments ≤ n
 
-one_more : (n : ℕ) (props : List Prop) (body : Body) (others : List Attached) → Good props → BodyFits n body → AttachmentsFit n (attachments_from others) → AttachmentsFit n (attachments_from ((props, body) ∷ others))
-one_more n props nothing others h b rest = record { lists = (list_from_good props h, (tt, rest.lists)); levels = omega (arith, rest.levels) }
-one_more n props (embedded inner) others h b rest = record { lists = (list_from_good props h, (b.0, rest.lists)); levels = omega (arith, rest.levels, b.1) }
+pub one_more : (n : ℕ) (props : List Prop) (body : Body) (others : List Attached) → IsPropList props → BodyFits n body → AttachmentsFit n (attachments_from others) → AttachmentsFit n (attachments_from ((props, body) ∷ others))
+one_more n props nothing others h b rest = record { lists = (h, (tt, rest.lists)); levels = omega (arith, rest.levels) }
+one_more n props (embedded inner) others h b rest = record { lists = (h, (b.0, rest.lists)); levels = omega (arith, rest.levels, b.1) }
 
 attachments_fit : (n : ℕ) (gs : List (List Read)) → Each (GroupFits n) gs → AttachmentsFit n (attachments_from (map attached_by gs))
 attachments_fit n [] h = record { lists = tt; levels = omega arith }
 attachments_fit n (g ∷ gs) h =
     let body = body_among g in
-    one_more n (joined (listed_props g) (beside body (derived g))) body (map attached_by gs) (joined_good (listed_props g) (beside body (derived g)) h.0.good (beside_listed body (derived g) (derived_listed n g h.0.each))) (body_fits n g h.0.each) (attachments_fit n gs h.1)
+    one_more n (joined (listed_props g) (beside body (derived g))) body (map attached_by gs) (list_from_good (joined (listed_props g) (beside body (derived g))) (joined_good (listed_props g) (beside body (derived g)) h.0.good (beside_listed body (derived g) (derived_listed n g h.0.each)))) (body_fits n g h.0.each) (attachments_fit n gs h.1)
 
 stream_fits : (objects : Whole Meaning) (n : ℕ) → ObjectsFit objects n → (at : ℕ) (s : List ℕ) (m : Meaning) → Fit s → StreamMeans objects at s m → Fits n m.message
 stream_fits objects n fits at s m h means =

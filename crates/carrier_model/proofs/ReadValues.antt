@@ -92,7 +92,7 @@ without_null-shorter n x = by (nat_le n (length x) && (le_number (drop (length x
     by true = omega (arith, length-take (length x - n) x)
     by false = omega arith
 
-without_null-even : (x : List ℕ) → length x % 2 ≡ 0 → length (without_null 2 x) % 2 ≡ 0
+pub without_null-even : (x : List ℕ) → length x % 2 ≡ 0 → length (without_null 2 x) % 2 ≡ 0
 without_null-even x e = by (nat_le 2 (length x) && (le_number (drop (length x - 2) x) == 0))
   where
     by : (b : Bool) → length (cond b (take (length x - 2) x) x) % 2 ≡ 0
@@ -194,13 +194,13 @@ length-mapped f (x ∷ xs) = let h = length-mapped f xs in omega (arith, h)
 abbrev IsTop : ℕ → ℕ → Type 0
 IsTop kind w = top w ≡ 2 ^ (8 * w)
 
-top_number : (kind : ℕ) → 0 < width_in number_widths kind → top (width_in number_widths kind) ≡ 2 ^ (8 * width_in number_widths kind)
+pub top_number : (kind : ℕ) → 0 < width_in number_widths kind → top (width_in number_widths kind) ≡ 2 ^ (8 * width_in number_widths kind)
 top_number kind some = among_rows IsTop number_widths kind (refl, (refl, (refl, (refl, (refl, (refl, (refl, (refl, (refl, (refl, tt)))))))))) some
 
-top_numbers : (kind : ℕ) → 0 < width_in numbers_widths kind → top (width_in numbers_widths kind) ≡ 2 ^ (8 * width_in numbers_widths kind)
+pub top_numbers : (kind : ℕ) → 0 < width_in numbers_widths kind → top (width_in numbers_widths kind) ≡ 2 ^ (8 * width_in numbers_widths kind)
 top_numbers kind some = among_rows IsTop numbers_widths kind (refl, (refl, (refl, (refl, (refl, (refl, (refl, (refl, tt)))))))) some
 
-width_below : (w p : ℕ) (x : List ℕ) → top w ≡ p → length x ≡ w → AllBytes x → le_number x < p
+pub width_below : (w p : ℕ) (x : List ℕ) → top w ≡ p → length x ≡ w → AllBytes x → le_number x < p
 width_below w p x e len h = omega (arith, number_below x h, ap top len, e)
 
 not_zero : (n : ℕ) → not (n == 0) ≡ true → 0 < n
@@ -214,14 +214,14 @@ is_zero n e = eqb-true n 0 (turned (n == 0) e)
     turned true f = refl
     turned false f = absurd cc
 
-bits_below : (kind p : ℕ) (x : List ℕ) → le_number x < p → bits_of kind x < p
+pub bits_below : (kind p : ℕ) (x : List ℕ) → le_number x < p → bits_of kind x < p
 bits_below kind p x lt = by ((kind == 0x000B) && not (le_number x == 0)) refl
   where
     by : (b : Bool) → ((kind == 0x000B) && not (le_number x == 0)) ≡ b → cond b 1 (le_number x) < p
     by true e = let some = not_zero (le_number x) (and_parts (kind == 0x000B) (not (le_number x == 0)) e).1 in omega (arith, some, lt)
     by false e = lt
 
-bits_boolean : (kind : ℕ) (x : List ℕ) → kind ≡ 0x000B → bits_of kind x < 2
+pub bits_boolean : (kind : ℕ) (x : List ℕ) → kind ≡ 0x000B → bits_of kind x < 2
 bits_boolean kind x e = subst (λ k. bits_of k x < 2) (sym e) (by (not (le_number x == 0)) refl)
   where
     by : (b : Bool) → not (le_number x == 0) ≡ b → cond b 1 (le_number x) < 2
@@ -302,7 +302,7 @@ none_seen false false true d p q r t e = absurd cc
 none_seen false false false true p q r t e = absurd cc
 none_seen false false false false p q r t e = absurd cc
 
-last_kind : (kind : ℕ) → is_kind kind ≡ true → is_number_kind kind ≡ false → (kind == 0x0048) ≡ false → is_bytes_kind kind ≡ false → is_numbers_kind kind ≡ false → (kind == 0x1048) ≡ false → (0x1000 ≤ kind) × (is_bytes_kind (kind - 0x1000) ≡ true)
+pub last_kind : (kind : ℕ) → is_kind kind ≡ true → is_number_kind kind ≡ false → (kind == 0x0048) ≡ false → is_bytes_kind kind ≡ false → is_numbers_kind kind ≡ false → (kind == 0x1048) ≡ false → (0x1000 ≤ kind) × (is_bytes_kind (kind - 0x1000) ≡ true)
 last_kind kind known a b c d e = by (nat_lt 0 (width_in (number_widths ++ numbers_widths ++ guid_widths) kind)) (is_bytes_kind kind) refl c known
   where
     by : (w t : Bool) → nat_lt 0 (width_in (number_widths ++ numbers_widths ++ guid_widths) kind) ≡ w → t ≡ false → (w || (t || (nat_le 0x1000 kind && is_bytes_kind (kind - 0x1000)))) ≡ true → (0x1000 ≤ kind) × (is_bytes_kind (kind - 0x1000) ≡ true)

@@ -25,7 +25,7 @@ pub use laws::{
 };
 pub use msg_laws::{
     files_mean_one_message, lists_of_storages_are_exact, messages_of_files_are_exact,
-    msg_carriers_are_exact, names_are_exact, written_names_are_read,
+    msg_carriers_are_exact, msg_carriers_are_trees, names_are_exact, written_names_are_read,
 };
 pub use msg_read_rows::{
     a_name_twice, chains_of_a_small_file, files_are_read_back, lists_of_one_entry, one_name_is_read,
@@ -41,4 +41,5 @@ pub use text_rows::{
 pub use tnef_laws::{
     canonical_lists_mean_themselves, canonical_tnef_means_its_tree, property_lists_are_exact,
     recipient_lists_are_exact, tnef_carriers_are_trees, tnef_messages_are_exact,
+    trees_within_the_limits_are_carried,
 };

@@ -1,5 +1,6 @@
 //! Laws about .msg files.
 ghost use Rattle.std.specs.Prelude.{◌≡◌, ◌≤◌, ℕ, List, length, IsTrue, Ok, Err};
+ghost use Rattle.carrier_model.specs.Bytes.{AllBytes};
 ghost use Rattle.carrier_model.specs.Files.{Files};
 ghost use Rattle.carrier_model.specs.MsgMessage.{files_meaning, file_meaning, FilesMean, MsgCarrier, MsgFault};
 ghost use Rattle.carrier_model.specs.MsgProps.{Part, Section, MsgProps, props_of};
@@ -8,8 +9,10 @@ ghost use Rattle.carrier_model.specs.NameMap.{NameStreams, Pair, NamePairs, pair
 ghost use Rattle.carrier_model.specs.Keys.{Name};
 ghost use Rattle.carrier_model.specs.ReadBack.{AreNames, HasNameMap};
 ghost use Rattle.carrier_model.specs.Sectors.{is_size};
-ghost use Rattle.carrier_model.specs.TnefMessage.{Meaning};
+ghost use Rattle.carrier_model.specs.TnefMessage.{Meaning, Passed};
 ghost use Rattle.carrier_model.specs.Trail.{IsExact};
+ghost use Rattle.carrier_model.specs.Tree.{Message};
+ghost use Rattle.carrier_model.specs.Trees.{IsTree};
 
 /// The names that are answered are the pairs of the file, and they are answered wherever it has them.
 pub fn names_are_exact()
@@ -46,4 +49,10 @@ pub fn msg_carriers_are_exact()
 /// The name map that is written is read back: the k-th name, from 0, has the id 8000 plus k.
 pub fn written_names_are_read()
     ensures { (s : NameStreams) (names : List Name) → AreNames names → HasNameMap s names → pairs_of s ≡ Ok (pairs_from 0 names) }
+{}
+
+/// What a .msg file means is a tree whose lists are sorted and whose values are of their kinds' forms and ranges, where
+/// it is made of bytes and no longer than the greatest input. z is the sector size.
+pub fn msg_carriers_are_trees()
+    ensures { (z : ℕ) (b : List ℕ) (t : Message) (passed : List Passed) → IsTrue (is_size z) → AllBytes b → length b ≤ 268435456 → MsgCarrier z b t passed → IsTree t }
 {}

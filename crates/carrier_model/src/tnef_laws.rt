@@ -1,8 +1,10 @@
 //! Laws about what a TNEF stream means.
 ghost use Rattle.std.specs.Prelude.{◌≡◌, ◌<◌, ◌≤◌, ◌^◌, ℕ, List, [], Bool, Some, None, length};
 ghost use Rattle.carrier_model.specs.Bytes.{AllBytes};
+ghost use Rattle.carrier_model.specs.Commands.{to_tnef};
 ghost use Rattle.carrier_model.specs.Grammar.{Means};
 ghost use Rattle.carrier_model.specs.Keys.{Name};
+ghost use Rattle.carrier_model.specs.Targets.{passed_limit};
 ghost use Rattle.carrier_model.specs.TnefCanonical.{list_bytes, tnef_of};
 ghost use Rattle.carrier_model.specs.TnefLists.{prop_list, recipient_lists};
 ghost use Rattle.carrier_model.specs.TnefMessage.{message_within, Passed, TnefCarrier, TnefFault};
@@ -41,4 +43,9 @@ pub fn canonical_tnef_means_its_tree()
 /// What a TNEF stream means is such a tree, where it is made of bytes and no longer than the greatest input.
 pub fn tnef_carriers_are_trees()
     ensures { (bytes : List ℕ) (t : Message) (passed : List Passed) → AllBytes bytes → length bytes ≤ 0x1000_0000 → TnefCarrier bytes t passed → IsTree t }
+{}
+
+/// A tree that passes no limit of a TNEF stream is carried by its canonical stream.
+pub fn trees_within_the_limits_are_carried()
+    ensures { (t : Message) (b : List ℕ) → IsTree t → passed_limit to_tnef t b ≡ None → TnefCarrier (tnef_of t) t [] }
 {}
