@@ -135,9 +135,9 @@ children_fit z b f h bytes short is =
     let streams : ℕ → Stream = λ id. stream_of z b s (d.entry id) (is.chain id) in
     let there = linked_each d 1 (d.entry 0).child is.links is.linked in
     let each : EachFits d streams (ids is.links) = λ q e other. (
-        let has = found_at (λ id. (id < d.count) × (has_type (d.entry id) ≡ true)) (ids is.links) q there e in
-        let claimed = found_at (λ id. IsStream z b s (d.entry id) (is.chain id)) (stream_ids d is.links) q is.streams (stream_member d is.links q has.0 has.1 other e) in
-        stream_fits z b s (d.entry q) (is.chain q) h bytes short claimed) in
+    let has = found_at (λ id. (id < d.count) × (has_type (d.entry id) ≡ true)) (ids is.links) q there e in
+    let claimed = found_at (λ id. IsStream z b s (d.entry id) (is.chain id)) (stream_ids d is.links) q is.streams (stream_member d is.links q has.0 has.1 other e) in
+    stream_fits z b s (d.entry q) (is.chain q) h bytes short claimed) in
     subst (λ (g : Files). ChildrenFit g.children) (sym is.is_tree) (tree_fits d streams is.links none each tt)
 
 -- ---- streams by their names
