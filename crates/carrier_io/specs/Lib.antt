@@ -1,3 +1,4 @@
+pub mod Gathered
 pub mod Adapters
 pub mod Causes
 pub mod Known
