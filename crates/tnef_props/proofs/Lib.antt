@@ -5,3 +5,8 @@ pub mod ValueForms
 pub mod KindNumbers
 pub mod ListForms
 pub mod ReadForms
+pub mod Summed
+pub mod WrittenValues
+pub mod WrittenKeys
+pub mod PartsOfLists
+pub mod Lengths

@@ -1,18 +1,27 @@
 //! Property lists of a TNEF stream.
 #![tactic(auto)]
 
+mod appending;
 mod fields;
 mod items;
 mod list;
 mod names;
 mod object;
+mod object_places;
+mod ranges;
 mod rest;
 mod shapes;
+mod sizes;
 mod texts;
 mod values;
+mod writing_values;
+mod writing_keys;
 
 pub use list::read_list;
 pub use object::{Object, ReadList};
+pub use object_places::object_place;
+pub use ranges::{range_sum, write_range};
+pub use sizes::list_size;
 
 #[cfg(test)]
 mod tests;

@@ -1,0 +1,15 @@
+use Rattle.std.proofs.Common.{◌≡◌, ap, length, sym, ◌∙◌, take, arith, length-take}
+use Rattle.tnef_props.proofs.PartsOfLists.{object_parts}
+use Rattle.tnef_props.proofs.object_places.object_place.Goals as goal
+
+pub returns-clause-place : goal.returns-clause-place
+returns-clause-place g c =
+    let cut = c.count_before.ensures in
+    let e = ap length ((object_parts c.args.props.now c.count_before.result cut).front) in
+    omega (arith, e, cut.in_range, length-take c.count_before.result c.args.props.now)
+
+pub returns-clause-before : goal.returns-clause-before
+returns-clause-before g c = (object_parts c.args.props.now c.count_before.result c.count_before.ensures).front
+
+pub returns-clause-behind : goal.returns-clause-behind
+returns-clause-behind g c = (object_parts c.args.props.now c.count_before.result c.count_before.ensures).back

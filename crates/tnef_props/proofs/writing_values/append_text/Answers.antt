@@ -1,0 +1,26 @@
+use Rattle.std.proofs.Common.{◌≡◌, ℕ, ◌+◌, ◌++◌, List, Some, length, refl, sym, ap, ◌∙◌, arith}
+use Rattle.std.specs.Prelude.{replicate}
+use Rattle.std.specs.List.{flat_map}
+use Rattle.carrier_model.specs.Bytes.{le32}
+use Rattle.carrier_model.specs.TnefCanonical.{zero_padded}
+use Rattle.prop_values.specs.Kinds.{kind_number}
+use Rattle.prop_values.specs.Meaning.{value_of}
+use Rattle.tnef_props.specs.Written.{Fits, number_field, text_field, content_field, counted}
+use Rattle.tnef_props.proofs.Summed.{sums_both, sums_first, sums_second, loop_more, loop_stops}
+use Rattle.tnef_props.proofs.WrittenValues.{all_at, padded_parts, text_size, fits_width, number_parts, numbers_parts, numbers_fit, bytes_short, parts_short, count_below, value_parts}
+use Rattle.tnef_props.proofs.writing_values.append_text.Goals as goal
+
+pub returns-in_err-size : goal.returns-in_err-size
+returns-in_err-size g c =
+    sums_first (zero_padded (g.B.Blob.bytes c.args.text.now ++ replicate c.args.null 0)) c.from_residual.ensures.0
+    (rw (c.le32.ensures ∙ text_size (g.B.Blob.bytes c.args.text.now) c.args.null _ (omega (arith, c.len.ensures))) at c.in_err-size.ensures)
+
+pub returns-in_err-bytes : goal.returns-in_err-bytes
+returns-in_err-bytes g c =
+    sums_second c.from_residual-in_err-bytes.ensures.0
+    (rw (c.le32.ensures ∙ text_size (g.B.Blob.bytes c.args.text.now) c.args.null _ (omega (arith, c.len.ensures))) at c.in_ok-size.ensures) c.in_err-bytes.ensures
+
+pub returns : goal.returns
+returns g c =
+    sums_both _ refl
+    (rw (c.le32.ensures ∙ text_size (g.B.Blob.bytes c.args.text.now) c.args.null _ (omega (arith, c.len.ensures))) at c.in_ok-size.ensures) c.in_ok-bytes.ensures
