@@ -1,7 +1,7 @@
-use crate::read_list;
-use carrier_io::{Fault, PassedList, Reason, Stop};
-use prop_names::{Key, Name};
-use prop_values::{Kind, Part, Value};
+use crate::{list_size, object_place, range_sum, read_list, write_range};
+use carrier_io::{Fault, MemorySink, PassedList, Reason, Stop};
+use prop_names::{Key, Name, NameSet};
+use prop_values::{Kind, Part, Prop, Props, Value};
 use std::test::*;
 
 /// A list of one MultipleString, id 1234: `A` and the empty text, each with its null.
@@ -70,5 +70,34 @@ fn faults_of_lists(rt: HostRuntime) -> Result<(), Fail> {
             _ => return Err("a fault".into()),
         }
     }
+    Ok(())
+}
+
+#[test]
+fn a_list_is_written(rt: HostRuntime) -> Result<(), Fail> {
+    let alloc = rt.alloc();
+    let mut props: Props<&[u8]> = Props::new(alloc);
+    let text = Prop {
+        key: Key::Id(0x1234),
+        value: Value::Bytes {
+            kind: Kind::String,
+            bytes: &[0x41, 0][..],
+        },
+    };
+    props.insert_sorted(text).ok().ok_or("memory")?;
+    let names = NameSet::new(alloc);
+    let mut sink = MemorySink::new(alloc, 100, Vec::new(alloc))
+        .ok()
+        .ok_or("memory")?;
+    write_range(&mut sink, &props, &names, 0, 1)
+        .ok()
+        .ok_or("room")?;
+    let wanted = [
+        0x1f, 0, 0x34, 0x12, 1, 0, 0, 0, 4, 0, 0, 0, 0x41, 0, 0, 0,
+    ];
+    assert_eq!(rt; sink.bytes(), wanted.as_slice());
+    assert_eq!(rt; range_sum(&props, &names, 0, 1), 0xab);
+    assert_eq!(rt; (list_size(&props, None), list_size(&props, Some(16))), (20, 48));
+    assert_eq!(rt; object_place(&props), 1);
     Ok(())
 }
