@@ -59,3 +59,4 @@ pub mod Turns
 pub mod ViewLaws
 pub mod VisitLaws
 pub mod WrittenNames
+pub mod TnefJobs

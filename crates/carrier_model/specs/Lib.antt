@@ -60,3 +60,4 @@ pub mod ValueTexts
 pub mod Values
 pub mod WrittenMsg
 pub mod WrittenNames
+pub mod TnefJobs

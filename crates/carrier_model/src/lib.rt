@@ -40,6 +40,6 @@ pub use text_rows::{
 };
 pub use tnef_laws::{
     canonical_lists_mean_themselves, canonical_tnef_means_its_tree, property_lists_are_exact,
-    recipient_lists_are_exact, tnef_carriers_are_trees, tnef_messages_are_exact,
-    trees_within_the_limits_are_carried,
+    recipient_lists_are_exact, tnef_acceptance_is_exact, tnef_carriers_are_trees,
+    tnef_messages_are_exact, trees_within_the_limits_are_carried,
 };

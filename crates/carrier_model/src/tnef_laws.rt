@@ -6,6 +6,7 @@ ghost use Rattle.carrier_model.specs.Grammar.{Means};
 ghost use Rattle.carrier_model.specs.Keys.{Name};
 ghost use Rattle.carrier_model.specs.Targets.{passed_limit};
 ghost use Rattle.carrier_model.specs.TnefCanonical.{list_bytes, tnef_of};
+ghost use Rattle.carrier_model.specs.TnefJobs.{Accepts, FaultOf};
 ghost use Rattle.carrier_model.specs.TnefLists.{prop_list, recipient_lists};
 ghost use Rattle.carrier_model.specs.TnefMessage.{message_within, Passed, TnefCarrier, TnefFault};
 ghost use Rattle.carrier_model.specs.Trail.{Fault, IsExact};
@@ -48,4 +49,9 @@ pub fn tnef_carriers_are_trees()
 /// A tree that passes no limit of a TNEF stream is carried by its canonical stream.
 pub fn trees_within_the_limits_are_carried()
     ensures { (t : Message) (b : List ℕ) → IsTree t → passed_limit to_tnef t b ≡ None → TnefCarrier (tnef_of t) t [] }
+{}
+
+/// Input is accepted as one message with things passed over, or refused for one fault, and not both.
+pub fn tnef_acceptance_is_exact()
+    ensures { (bytes : List ℕ) → IsExact (Accepts bytes) (FaultOf bytes) }
 {}
