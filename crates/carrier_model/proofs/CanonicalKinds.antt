@@ -1,14 +1,12 @@
 -- The kinds by their tables, and what is written for a value spells it.
-use Rattle.std.proofs.Common.{◌≡◌, ◌⊎◌, inl, inr, ℕ, zero, suc, ◌+◌, ◌-◌, ◌*◌, ◌<◌, ◌≤◌, ◌^◌, ◌%◌, Bool, true, false, cond, List, [], ◌∷◌, ◌++◌, length, map, refl, sym, ap, subst, ◌∙◌, arith}
+use Rattle.std.proofs.Common.{◌≡◌, ℕ, zero, suc, ◌+◌, ◌-◌, ◌*◌, ◌<◌, ◌^◌, ◌%◌, Bool, true, false, cond, List, [], ◌∷◌, ◌++◌, length, map, refl, sym, ap, subst, arith}
 use Rattle.std.specs.List.{flat_map}
 use Rattle.std.specs.Prelude.{nat_le, ◌==◌, ◌||◌, All, IsTrue, Some, unwrap_or}
-use Rattle.std.specs.Int.{w64, to_le_bytes}
-use Rattle.std.proofs.lemmas.List.{append-nil}
 use Rattle.std.proofs.lemmas.Bool.{le-leb, lt-ltb, eq-eqb, eqb-true}
-use Rattle.carrier_model.specs.Bytes.{le16, le32}
-use Rattle.carrier_model.specs.Grammar.{Form, gives, and_then, choice, repeat}
-use Rattle.carrier_model.specs.Values.{Value, number, guid, bytes, numbers, guids, parts, number_widths, numbers_widths, width_among, width_in, is_bytes_kind, IsBytes, IsValue, kind_of, list_limit}
-use Rattle.carrier_model.specs.TnefLists.{le_number, pad4, padded, null_of, text, one, many, numbers_of, bits_of, is_number_kind, is_numbers_kind, is_size, value, is_kind, OBJECT}
+use Rattle.carrier_model.specs.Bytes.{le32}
+use Rattle.carrier_model.specs.Grammar.{Form, gives, and_then}
+use Rattle.carrier_model.specs.Values.{Value, number, guid, bytes, numbers, guids, parts, number_widths, numbers_widths, width_among, width_in, is_bytes_kind, IsBytes, IsValue, kind_of}
+use Rattle.carrier_model.specs.TnefLists.{le_number, padded, text, one, many, numbers_of, bits_of, is_number_kind, is_numbers_kind, is_size, value, is_kind, OBJECT}
 use Rattle.carrier_model.specs.TnefCanonical.{le_bytes, zero_padded, text_bytes, value_bytes}
 use Rattle.carrier_model.proofs.CanonicalValues.{then_spells, seen_spells, first_spells, other_spells, le16_number, le32_number, le64_number, word_spells, padded_spells, whole_spells, text_spells, SpellsAll, many_spells}
 

@@ -1,18 +1,18 @@
 -- What is written for a property list spells that list.
-use Rattle.std.proofs.Common.{◌≡◌, ◌⊎◌, inl, inr, ℕ, zero, suc, ◌+◌, ◌-◌, ◌*◌, ◌/◌, ◌<◌, ◌≤◌, ◌^◌, ◌%◌, Bool, true, false, cond, List, [], ◌∷◌, ◌++◌, length, take, drop, map, replicate, refl, sym, ap, subst, ◌∙◌, append_assoc, arith}
-use Rattle.std.specs.List.{flat_map, position_from, list_any}
+use Rattle.std.proofs.Common.{◌≡◌, ℕ, suc, ◌+◌, ◌*◌, ◌/◌, ◌<◌, ◌≤◌, ◌^◌, ◌%◌, Bool, true, false, cond, List, [], ◌∷◌, ◌++◌, length, map, replicate, refl, sym, ap, subst, ◌∙◌, append_assoc, arith}
+use Rattle.std.specs.List.{position_from, list_any, AllByRecursion}
 use Rattle.std.specs.Prelude.{nat_le, nat_lt, ◌==◌, ◌||◌, All, Option, Some, None, unwrap_or, filter, filter_map, not}
 use Rattle.std.proofs.lemmas.List.{append-nil, length-append, length-replicate}
-use Rattle.std.proofs.lemmas.Bool.{le-leb, lt-ltb, eq-eqb, leb-true, ltb-true}
+use Rattle.std.proofs.lemmas.Bool.{le-leb, lt-ltb, eq-eqb, ltb-true}
 use Rattle.carrier_model.specs.Bytes.{le16, le32}
-use Rattle.carrier_model.specs.Grammar.{Form, gives, and_then, such, placed, choice, repeat}
-use Rattle.carrier_model.specs.Reasons.{BAD_NAME_KIND, BAD_NAME_SIZE, UNKNOWN_LIST_TYPE, DUPLICATE_LIST_PROPERTY}
+use Rattle.carrier_model.specs.Grammar.{gives, and_then, such, placed, choice, repeat}
+use Rattle.carrier_model.specs.Reasons.{BAD_NAME_KIND, BAD_NAME_SIZE}
 use Rattle.carrier_model.specs.Keys.{Name, numbered, texted, Key, id, named, IsName, IsKey, name_cmp, key_cmp}
-use Rattle.carrier_model.specs.Values.{Value, Prop, kind_of, IsValue, IsProp, prop_cmp, with_pair}
+use Rattle.carrier_model.specs.Values.{Prop, kind_of, IsProp, prop_cmp, with_pair}
 use Rattle.carrier_model.specs.Sorted.{IsStrictlySorted, choose, with_element, with_elements}
 use Rattle.carrier_model.specs.Trees.{HasUnits, KeyHasUnits, IsPropList}
-use Rattle.carrier_model.specs.TnefLists.{le_number, pad4, raw, word, padded, without_null, units_of, name_size, name_units, name_text, name_number, name, key, value, sized, one, is_kind, OBJECT, ATTACHED_OBJECT, Item, kept, passed, carried, tag, object, property, described, is_double, is_new, any_item, item, items, prop_in, passed_in, content_in, first_of_list, PropList, list_of, prop_list}
-use Rattle.carrier_model.specs.TnefCanonical.{zero_padded, with_size, value_bytes, unit_bytes, name_bytes, tag_bytes, id_of, key_bytes, prop_bytes, props_bytes, comes_before_object, object_bytes, list_bytes}
+use Rattle.carrier_model.specs.TnefLists.{le_number, pad4, raw, word, without_null, units_of, name_size, name_units, name_text, name_number, name, key, value, sized, one, is_kind, OBJECT, ATTACHED_OBJECT, Item, kept, passed, carried, tag, object, property, described, is_double, any_item, item, items, prop_in, passed_in, content_in, first_of_list, PropList, list_of, prop_list}
+use Rattle.carrier_model.specs.TnefCanonical.{with_size, value_bytes, unit_bytes, name_bytes, tag_bytes, id_of, key_bytes, prop_bytes, props_bytes, comes_before_object, object_bytes, list_bytes}
 use Rattle.carrier_model.proofs.CanonicalValues.{then_spells, seen_spells, first_spells, other_spells, word_spells, without_its_null, sized_spells}
 use Rattle.std.specs.Ordering.{ordering_then, nat_cmp}
 use Rattle.std.specs.declared.cmp.Ordering.{Ordering}
@@ -180,28 +180,24 @@ object_spells at x long short = (
 
 -- ---- lists that rise
 
-abbrev pub Each : {A : Type 0} → (A → Type 0) → List A → Type 0
-Each P [] = Unit {0}
-Each P (x ∷ xs) = P x × Each P xs
-
-pub each_of : {A : Type 0} (P : A → Type 0) (xs : List A) → All P xs → Each P xs
+pub each_of : {A : Type 0} (P : A → Type 0) (xs : List A) → All P xs → AllByRecursion P xs
 each_of P [] h = tt
 each_of P (x ∷ xs) h = (h 0 x (omega arith), each_of P xs (λ k d lt. h (suc k) d (omega arith)))
 
-each_front : {A : Type 0} (P : A → Type 0) (xs ys : List A) → Each P (xs ++ ys) → Each P xs
+each_front : {A : Type 0} (P : A → Type 0) (xs ys : List A) → AllByRecursion P (xs ++ ys) → AllByRecursion P xs
 each_front P [] ys h = tt
 each_front P (x ∷ xs) ys h = (h.0, each_front P xs ys h.1)
 
-each_back : {A : Type 0} (P : A → Type 0) (xs ys : List A) → Each P (xs ++ ys) → Each P ys
+each_back : {A : Type 0} (P : A → Type 0) (xs ys : List A) → AllByRecursion P (xs ++ ys) → AllByRecursion P ys
 each_back P [] ys h = h
 each_back P (x ∷ xs) ys h = each_back P xs ys h.1
 
-pub each_push : {A : Type 0} (P : A → Type 0) (xs : List A) (y : A) → Each P xs → P y → Each P (xs ++ y ∷ [])
+pub each_push : {A : Type 0} (P : A → Type 0) (xs : List A) (y : A) → AllByRecursion P xs → P y → AllByRecursion P (xs ++ y ∷ [])
 each_push P [] y h g = (g, tt)
 each_push P (x ∷ xs) y h g = (h.0, each_push P xs y h.1 g)
 
 abbrev pub Above : Prop → List Prop → Type 0
-Above p ps = Each (λ q. prop_cmp p q ≡ Less) ps
+Above p ps = AllByRecursion (λ q. prop_cmp p q ≡ Less) ps
 
 abbrev pub Rising : List Prop → Type 0
 Rising [] = Unit {0}
@@ -222,7 +218,7 @@ rising_back (p ∷ ps) qs h = rising_back ps qs h.1
 -- each of some is below each of others
 abbrev Later : List Prop → List Prop → Type 0
 Later ps [] = Unit {0}
-Later ps (q ∷ qs) = Each (λ p. prop_cmp p q ≡ Less) ps × Later ps qs
+Later ps (q ∷ qs) = AllByRecursion (λ p. prop_cmp p q ≡ Less) ps × Later ps qs
 
 later_none : (qs : List Prop) → Later [] qs
 later_none [] = tt
@@ -233,7 +229,7 @@ later_push ps q [] h g = tt
 later_push ps q (r ∷ qs) h g = (each_push (λ p. prop_cmp p r ≡ Less) ps q h.0 g.0, later_push ps q qs h.1 g.1)
 
 -- such a list is sorted as it stands
-at_end : (ps : List Prop) (q : Prop) → Each (λ p. prop_cmp p q ≡ Less) ps → with_element prop_cmp ps q ≡ ps ++ q ∷ []
+at_end : (ps : List Prop) (q : Prop) → AllByRecursion (λ p. prop_cmp p q ≡ Less) ps → with_element prop_cmp ps q ≡ ps ++ q ∷ []
 at_end [] q h = refl
 at_end (p ∷ ps) q h = let rest : with_element prop_cmp ps q ≡ ps ++ q ∷ [] = at_end ps q h.1 in rw h.0 (ap (λ (l : List Prop). p ∷ l) rest)
 
@@ -295,7 +291,7 @@ more_length [] m = omega arith
 more_length (p ∷ ps) m = let h = more_length ps m in omega (arith, h)
 
 -- properties, and then what comes behind them
-props_then : (in_attachment : Bool) (names : List Name) (few : length names ≤ 0x8000) (ps : List Prop) (before : List Item) (m : ℕ) (y : List Item) (t : List ℕ) (at : ℕ) → Each IsListed ps → Rising ps → AllNew before ps
+props_then : (in_attachment : Bool) (names : List Name) (few : length names ≤ 0x8000) (ps : List Prop) (before : List Item) (m : ℕ) (y : List Item) (t : List ℕ) (at : ℕ) → AllByRecursion IsListed ps → Rising ps → AllNew before ps
     → (repeat m (item in_attachment) (before ++ map kept ps)).spells (at + length (props_bytes names ps)) y t → (repeat (more ps m) (item in_attachment) before).spells at y (props_bytes names ps ++ t)
 props_then in_attachment names few [] before m y t at each r new h =
     let place : at + 0 ≡ at = omega arith in
@@ -344,7 +340,7 @@ length-props : (names : List Name) (ps : List Prop) → length ps ≤ length (pr
 length-props names [] = omega arith
 length-props names (p ∷ ps) = omega (arith, length-prop names p, length-props names ps, length-append (prop_bytes names p) (props_bytes names ps))
 
-pub each_listed : (ps : List Prop) → All IsProp ps → All (λ p. KeyHasUnits p.key) ps → Each IsListed ps
+pub each_listed : (ps : List Prop) → All IsProp ps → All (λ p. KeyHasUnits p.key) ps → AllByRecursion IsListed ps
 each_listed [] h g = tt
 each_listed (p ∷ ps) h g = (record { good = h 0 p (omega arith); units = g 0 p (omega arith) }, each_listed ps (λ k d lt. h (suc k) d (omega arith)) (λ k d lt. g (suc k) d (omega arith)))
 
@@ -410,11 +406,11 @@ front_of ps = filter comes_before_object ps
 abbrev back_of : List Prop → List Prop
 back_of ps = filter (λ p. not (comes_before_object p)) ps
 
-all_behind : (ps : List Prop) → Each (λ p. comes_before_object p ≡ false) ps → (front_of ps ≡ []) × (back_of ps ≡ ps)
+all_behind : (ps : List Prop) → AllByRecursion (λ p. comes_before_object p ≡ false) ps → (front_of ps ≡ []) × (back_of ps ≡ ps)
 all_behind [] h = (refl, refl)
 all_behind (p ∷ ps) h = let r = all_behind ps h.1 in (rw h.0 r.0, rw h.0 (ap (λ (l : List Prop). p ∷ l) r.1))
 
-all_stay : (p : Prop) (ps : List Prop) → comes_before_object p ≡ false → Above p ps → Each (λ q. comes_before_object q ≡ false) ps
+all_stay : (p : Prop) (ps : List Prop) → comes_before_object p ≡ false → Above p ps → AllByRecursion (λ q. comes_before_object q ≡ false) ps
 all_stay p [] h g = tt
 all_stay p (q ∷ ps) h g = (stays_behind p q h g.0, all_stay p ps h g.1)
 
@@ -440,7 +436,7 @@ one_more : (in_attachment : Bool) (n m at : ℕ) (y : List Item) (before : List 
 one_more in_attachment n m at y before s e h = subst (λ k. (repeat k (item in_attachment) before).spells at y s) e h
 
 -- the properties before the Object, the Object, and those behind it
-split_spells : (names : List Name) (few : length names ≤ 0x8000) (ps qs : List Prop) (x : List ℕ) (at : ℕ) → 16 ≤ length x → length x < 2 ^ 32 → Each IsListed (ps ++ qs) → Rising (ps ++ qs)
+split_spells : (names : List Name) (few : length names ≤ 0x8000) (ps qs : List Prop) (x : List ℕ) (at : ℕ) → 16 ≤ length x → length x < 2 ^ 32 → AllByRecursion IsListed (ps ++ qs) → Rising (ps ++ qs)
     → (place : ℕ) × (repeat (more ps (suc (more qs 0))) (item true) []).spells at ((map kept ps ++ carried place x ∷ []) ++ map kept qs) (props_bytes names ps ++ (object_bytes x ++ (props_bytes names qs ++ [])))
 split_spells names few ps qs x at long short each r =
     let behind = at + length (props_bytes names ps) in
@@ -475,7 +471,7 @@ carrying_spells names at ps x few h long lt =
     let short : length x < 2 ^ 32 = omega (arith, len) in
     let counted : length ps + 1 < 2 ^ 32 = omega (arith, len) in
     let n : more front (suc (more back 0)) ≡ length ps + 1 = more_length front (suc (more back 0)) ∙ (let b = more_length back 0 in let c : length ps ≡ length front + length back = ap length (sym whole) ∙ length-append front back in omega (arith, b, c)) in
-    let listed : Each IsListed (front ++ back) = subst (λ l. Each IsListed l) (sym whole) (each_listed ps h.each h.units) in
+    let listed : AllByRecursion IsListed (front ++ back) = subst (λ l. AllByRecursion IsListed l) (sym whole) (each_listed ps h.each h.units) in
     let rises : Rising (front ++ back) = subst Rising (sym whole) r in
     let spelled = split_spells names few front back x (at + 4) long short listed rises in
     let y = (map kept front ++ carried spelled.0 x ∷ []) ++ map kept back in

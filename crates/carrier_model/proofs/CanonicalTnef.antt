@@ -1,25 +1,25 @@
 -- What is written for a message means that message.
-use Rattle.std.proofs.Common.{◌≡◌, ◌⊎◌, inl, inr, ℕ, zero, suc, ◌+◌, ◌<◌, ◌≤◌, ◌^◌, Bool, true, false, cond, List, [], ◌∷◌, ◌++◌, length, take, drop, map, reverse, replicate, refl, sym, ap, subst, ◌∙◌, append_assoc, arith}
-use Rattle.std.specs.List.{flat_map, list_any, cons_option, prefix_len, take_while}
+use Rattle.std.proofs.Common.{◌≡◌, ◌⊎◌, inl, inr, ℕ, zero, suc, ◌+◌, ◌<◌, ◌≤◌, ◌^◌, Bool, true, false, cond, List, [], ◌∷◌, ◌++◌, length, take, map, reverse, replicate, refl, sym, ap, subst, ◌∙◌, arith}
+use Rattle.std.specs.List.{flat_map, list_any, cons_option, prefix_len, take_while, AllByRecursion}
 use Rattle.std.specs.Option.{option_map}
-use Rattle.std.specs.Prelude.{nat_lt, ◌==◌, ◌||◌, ◌&&◌, All, Option, Some, None, unwrap_or, filter, filter_map, find, not, zip}
+use Rattle.std.specs.Prelude.{nat_lt, ◌==◌, ◌||◌, ◌&&◌, All, Option, Some, None, unwrap_or, filter, find, not, zip}
 use Rattle.std.proofs.lemmas.List.{append-nil, length-append, reverse-append}
 use Rattle.std.proofs.lemmas.List.Folds.{list_any-append}
-use Rattle.std.proofs.lemmas.Bool.{eqb-true, eq-eqb, ltb-false}
+use Rattle.std.proofs.lemmas.Bool.{eqb-true, ltb-false}
 use Rattle.std.proofs.lemmas.Bool.Decides.{nat_tests}
 use Rattle.carrier_model.specs.Bytes.{le16, le32, sum16}
 use Rattle.carrier_model.specs.Trail.{Fault, first_fault}
 use Rattle.carrier_model.specs.Items.{AllGood}
-use Rattle.carrier_model.specs.Attributes.{Attr, attr, is_level, spelling, IsAttr, attrs, SIGNATURE, Attrs}
-use Rattle.carrier_model.specs.Grammar.{Form, Begins, Means, gives, and_then, choice, Whole, inside}
+use Rattle.carrier_model.specs.Attributes.{Attr, attr, is_level, spelling, attrs, SIGNATURE, Attrs}
+use Rattle.carrier_model.specs.Grammar.{gives, and_then, Whole, inside}
 use Rattle.carrier_model.specs.Keys.{Name, Key, id, named, key_cmp, is_id}
 use Rattle.carrier_model.specs.Values.{Value, Prop, kind_of, prop_cmp}
 use Rattle.carrier_model.specs.Sorted.{choose, with_elements}
-use Rattle.carrier_model.specs.Tree.{Message, message, Attachments, no_more, attached, Body, nothing, embedded, Attached, attachments_from, listed, depth, depth_in, depth_of_body, names_of}
+use Rattle.carrier_model.specs.Tree.{Message, message, Attachments, no_more, attached, Body, nothing, embedded, attachments_from, listed, depth, depth_in, depth_of_body, names_of}
 use Rattle.carrier_model.specs.Trees.{IsPropList, HasPropLists, HavePropLists, BodyHasPropLists, IsTree}
-use Rattle.carrier_model.specs.LegacyAttributes.{VERSION, CODE_PAGE, MESSAGE_PROPS, RECIPIENTS, RENDERING, ATTACHMENT, Rule, page, position, value_by, is_message_id, is_attachment_id, legacy_prop}
-use Rattle.carrier_model.specs.TnefLists.{PropList, prop_list, recipient_lists, many}
-use Rattle.carrier_model.specs.TnefMessage.{Passed, Meaning, Gift, no_gift, message_list, recipients, attachment, Part, part, with_inner, inner_of, content, has_attr, is_there, place_tests, Stands, AllStand, Read, props_in, recipients_in, body_in, or_else, body_among, derived, has_key_of, joined, beside, attached_by, groups, message_by, meaning_by, StreamMeans, stream, IID_MESSAGE, interface_tests, object_with, behind_interface, too_deep, message_within, GREATEST_LEVEL, TnefCarrier, TnefFault}
+use Rattle.carrier_model.specs.LegacyAttributes.{VERSION, CODE_PAGE, MESSAGE_PROPS, RECIPIENTS, RENDERING, ATTACHMENT, page, position, value_by, is_message_id, is_attachment_id, legacy_prop}
+use Rattle.carrier_model.specs.TnefLists.{PropList, prop_list, recipient_lists}
+use Rattle.carrier_model.specs.TnefMessage.{Passed, Meaning, Gift, no_gift, message_list, recipients, attachment, Part, part, with_inner, inner_of, content, has_attr, place_tests, Stands, AllStand, Read, props_in, recipients_in, or_else, derived, has_key_of, joined, beside, attached_by, groups, message_by, meaning_by, StreamMeans, IID_MESSAGE, object_with, behind_interface, too_deep, message_within, GREATEST_LEVEL, TnefCarrier, TnefFault}
 use Rattle.carrier_model.specs.Limits.{Limit, too_many_names, too_large, where_passed, first_limit}
 use Rattle.carrier_model.specs.Targets.{MOST_BYTES, passed_size, passed_limit}
 use Rattle.carrier_model.specs.Totals.{capped}
@@ -27,7 +27,7 @@ use Rattle.carrier_model.specs.Commands.{to_tnef}
 use Rattle.carrier_model.specs.TnefCanonical.{list_bytes, attribute, bits_in, integer_or, front, page_attribute, recipients_attribute, props_attribute, rendering_attribute, stream_of, attachments_bytes, content_of, tnef_of}
 use Rattle.carrier_model.proofs.TnefMessage.{message_exact}
 use Rattle.carrier_model.proofs.CanonicalValues.{then_spells, seen_spells, SpellsAll, many_spells}
-use Rattle.carrier_model.proofs.CanonicalLists.{Each, each_of, with_object, list_spells, carrying_spells, shorter_object}
+use Rattle.carrier_model.proofs.CanonicalLists.{each_of, with_object, list_spells, carrying_spells, shorter_object}
 
 -- ---- attributes one behind the other
 
@@ -47,7 +47,7 @@ spelled_again at (a ∷ l) = ap (λ (z : List ℕ). spelling a ++ z) (spelled_ag
 length-spelling : (a : Attr) → length a.bytes ≤ length (spelling a)
 length-spelling a = omega (arith, length-append a.bytes (le16 (sum16 a.bytes)))
 
-all_good : (at : ℕ) (l : List Attr) → Each IsWritten l → length (flat_map spelling l) < 2 ^ 32 → AllGood attrs at (placed_at at l)
+all_good : (at : ℕ) (l : List Attr) → AllByRecursion IsWritten l → length (flat_map spelling l) < 2 ^ 32 → AllGood attrs at (placed_at at l)
 all_good at [] h lt = tt
 all_good at (a ∷ l) h lt =
     let len = length-append (spelling a) (flat_map spelling l) in (
@@ -90,19 +90,19 @@ stream_spelled names props rows attachments =
     ap (λ (z : List ℕ). front ++ (page_attribute props ++ (recipients_attribute names rows ++ (props_attribute names props ++ z)))) (attachments_spelled names attachments)
     ∙ ap (λ (z : List ℕ). front ++ (page_attribute props ++ z)) (recipients_spelled names rows (own_attrs names props attachments))
 
-each_written : (l m : List Attr) → Each IsWritten l → Each IsWritten m → Each IsWritten (l ++ m)
+each_written : (l m : List Attr) → AllByRecursion IsWritten l → AllByRecursion IsWritten m → AllByRecursion IsWritten (l ++ m)
 each_written [] m h g = g
 each_written (a ∷ l) m h g = (h.0, each_written l m h.1 g)
 
-recipients_written : (names : List Name) (rows : List (List Prop)) → Each IsWritten (recipient_attrs names rows)
+recipients_written : (names : List Name) (rows : List (List Prop)) → AllByRecursion IsWritten (recipient_attrs names rows)
 recipients_written names [] = tt
 recipients_written names (r ∷ rows) = (record { level = refl; id = omega arith }, tt)
 
-attachments_written : (names : List Name) (attachments : Attachments) → Each IsWritten (attachment_attrs names attachments)
+attachments_written : (names : List Name) (attachments : Attachments) → AllByRecursion IsWritten (attachment_attrs names attachments)
 attachments_written names no_more = tt
 attachments_written names (attached props body others) = (record { level = refl; id = omega arith }, (record { level = refl; id = omega arith }, attachments_written names others))
 
-message_written : (names : List Name) (props : List Prop) (rows : List (List Prop)) (attachments : Attachments) → Each IsWritten (message_attrs names props rows attachments)
+message_written : (names : List Name) (props : List Prop) (rows : List (List Prop)) (attachments : Attachments) → AllByRecursion IsWritten (message_attrs names props rows attachments)
 message_written names props rows attachments = (
   record { level = refl; id = omega arith },
   (
@@ -147,7 +147,7 @@ unfolding content
 props_content objects names at place props few h lt = seen_spells (prop_list false) (λ l. part (message_list l.props) l.passed) at (with_object props None) (list_bytes names props None) (list_spells false names at props few h lt)
 
 -- the lists of recipients
-rows_spelled : (names : List Name) (rows : List (List Prop)) → length names ≤ 0x8000 → Each IsPropList rows → length (flat_map (λ props. list_bytes names props None) rows) < 2 ^ 32
+rows_spelled : (names : List Name) (rows : List (List Prop)) → length names ≤ 0x8000 → AllByRecursion IsPropList rows → length (flat_map (λ props. list_bytes names props None) rows) < 2 ^ 32
     → SpellsAll (prop_list false) (λ props. with_object props None) (λ props. list_bytes names props None) rows
 rows_spelled names [] few h lt = tt
 rows_spelled names (r ∷ rows) few h lt =
@@ -170,7 +170,7 @@ rows_passed (r ∷ rows) = rows_passed rows
 same_part : (a b : Gift) (l m : List Passed) → a ≡ b → l ≡ m → part a l ≡ part b m
 same_part a b l m e f = λ i. part (e i) (f i)
 
-rows_content : (objects : Whole Meaning) (names : List Name) (at place : ℕ) (rows : List (List Prop)) → length names ≤ 0x8000 → Each IsPropList rows → length (flat_map (λ props. list_bytes names props None) rows) < 2 ^ 32
+rows_content : (objects : Whole Meaning) (names : List Name) (at place : ℕ) (rows : List (List Prop)) → length names ≤ 0x8000 → AllByRecursion IsPropList rows → length (flat_map (λ props. list_bytes names props None) rows) < 2 ^ 32
     → let x = le32 (length rows) ++ flat_map (λ props. list_bytes names props None) rows in (content objects (attr 1 RECIPIENTS place x)).spells at (part (recipients rows) []) x
 unfolding content recipient_lists
 rows_content objects names at place rows few h lt =
@@ -273,7 +273,7 @@ message_parts props rows attachments = part no_gift [] ∷ (part no_gift [] ∷ 
 record Fits (objects : Whole Meaning) (names : List Name) (props : List Prop) (rows : List (List Prop)) (attachments : Attachments) : Type 0 where
   few : length names ≤ 0x8000
   list : IsPropList props
-  lists : Each IsPropList rows
+  lists : AllByRecursion IsPropList rows
   below : HavePropLists attachments
   inside : ObjectsMean objects names attachments
   short : length (list_bytes names props None) < 2 ^ 32
@@ -345,42 +345,42 @@ found n (p ∷ props) = by (found n props) (is_id n p.key) (kind_of p.value == 0
 abbrev from_option : Option Prop → List Prop
 from_option o = cons_option o []
 
-all_had : (props : List Prop) (n : ℕ) (o : Option Value) → ((v : Value) → has_key_of props (record { key = id n; value = v }) ≡ true) → Each (Has props) (from_option (option_map (λ v. record { key = id n; value = v }) o))
+all_had : (props : List Prop) (n : ℕ) (o : Option Value) → ((v : Value) → has_key_of props (record { key = id n; value = v }) ≡ true) → AllByRecursion (Has props) (from_option (option_map (λ v. record { key = id n; value = v }) o))
 unfolding Has
 all_had props n None h = tt
 all_had props n (Some v) h = (h v, tt)
 
-page_had : (props : List Prop) → Each (Has props) (from_option (legacy_prop CODE_PAGE (page_bytes props)))
+page_had : (props : List Prop) → AllByRecursion (Has props) (from_option (legacy_prop CODE_PAGE (page_bytes props)))
 page_had props = by (found 0x3FFD props)
   where
-    by : (find (is_integer 0x3FFD) props ≡ None) ⊎ ((v : Value) → has_key_of props (record { key = id 0x3FFD; value = v }) ≡ true) → Each (Has props) (from_option (legacy_prop CODE_PAGE (page_bytes props)))
-    by (inl none) = subst (λ o. Each (Has props) (from_option (legacy_prop CODE_PAGE (le32 (unwrap_or (option_map (λ (p : Prop). bits_in p.value) o) 1252) ++ le32 0)))) (sym none) tt
+    by : (find (is_integer 0x3FFD) props ≡ None) ⊎ ((v : Value) → has_key_of props (record { key = id 0x3FFD; value = v }) ≡ true) → AllByRecursion (Has props) (from_option (legacy_prop CODE_PAGE (page_bytes props)))
+    by (inl none) = subst (λ o. AllByRecursion (Has props) (from_option (legacy_prop CODE_PAGE (le32 (unwrap_or (option_map (λ (p : Prop). bits_in p.value) o) 1252) ++ le32 0)))) (sym none) tt
     by (inr some) = all_had props 0x3FFD (value_by page (page_bytes props)) some
 
-rendering_had : (props : List Prop) → Each (Has props) (from_option (legacy_prop RENDERING (rendering_bytes props)))
+rendering_had : (props : List Prop) → AllByRecursion (Has props) (from_option (legacy_prop RENDERING (rendering_bytes props)))
 rendering_had props = by (found 0x370B props)
   where
-    by : (find (is_integer 0x370B) props ≡ None) ⊎ ((v : Value) → has_key_of props (record { key = id 0x370B; value = v }) ≡ true) → Each (Has props) (from_option (legacy_prop RENDERING (rendering_bytes props)))
-    by (inl none) = subst (λ o. Each (Has props) (from_option (legacy_prop RENDERING (le16 1 ++ (le32 (unwrap_or (option_map (λ (p : Prop). bits_in p.value) o) 0xFFFFFFFF) ++ replicate 8 0))))) (sym none) tt
+    by : (find (is_integer 0x370B) props ≡ None) ⊎ ((v : Value) → has_key_of props (record { key = id 0x370B; value = v }) ≡ true) → AllByRecursion (Has props) (from_option (legacy_prop RENDERING (rendering_bytes props)))
+    by (inl none) = subst (λ o. AllByRecursion (Has props) (from_option (legacy_prop RENDERING (le16 1 ++ (le32 (unwrap_or (option_map (λ (p : Prop). bits_in p.value) o) 0xFFFFFFFF) ++ replicate 8 0))))) (sym none) tt
     by (inr some) = all_had props 0x370B (value_by position (rendering_bytes props)) some
 
-none_left : (props more : List Prop) → Each (Has props) more → filter (λ p. not (has_key_of props p)) more ≡ []
+none_left : (props more : List Prop) → AllByRecursion (Has props) more → filter (λ p. not (has_key_of props p)) more ≡ []
 unfolding Has
 none_left props [] h = refl
 none_left props (p ∷ more) h = rw h.0 (none_left props more h.1)
 
-nothing_joins : (props more : List Prop) → Each (Has props) more → joined props more ≡ props
+nothing_joins : (props more : List Prop) → AllByRecursion (Has props) more → joined props more ≡ props
 nothing_joins props more h = ap (with_elements prop_cmp props) (none_left props more h)
 
-each_filtered : (P : Prop → Type 0) (t : Prop → Bool) (l : List Prop) → Each P l → Each P (filter t l)
+each_filtered : (P : Prop → Type 0) (t : Prop → Bool) (l : List Prop) → AllByRecursion P l → AllByRecursion P (filter t l)
 each_filtered P t [] h = tt
 each_filtered P t (p ∷ l) h = by (t p) (each_filtered P t l h.1)
   where
-    by : (b : Bool) → Each P (filter t l) → Each P (cond b (p ∷ filter t l) (filter t l))
+    by : (b : Bool) → AllByRecursion P (filter t l) → AllByRecursion P (cond b (p ∷ filter t l) (filter t l))
     by true rest = (h.0, rest)
     by false rest = rest
 
-each_beside : (P : Prop → Type 0) (body : Body) (l : List Prop) → Each P l → Each P (beside body l)
+each_beside : (P : Prop → Type 0) (body : Body) (l : List Prop) → AllByRecursion P l → AllByRecursion P (beside body l)
 each_beside P nothing l h = h
 each_beside P (embedded inner) l h = each_filtered P (λ p. not (is_id 0x3701 p.key)) l h
 
@@ -490,7 +490,7 @@ unfolding message_within
 at_level zero at bytes m h = h
 at_level (suc n) at bytes m h = h
 
-each_list : (rows : List (List Prop)) → All IsPropList rows → Each IsPropList rows
+each_list : (rows : List (List Prop)) → All IsPropList rows → AllByRecursion IsPropList rows
 each_list rows h = each_of IsPropList rows h
 
 -- each part is shorter than the stream

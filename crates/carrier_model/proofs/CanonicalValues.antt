@@ -1,14 +1,14 @@
 -- What is written for a value spells that value.
-use Rattle.std.proofs.Common.{◌≡◌, ◌⊎◌, inl, inr, ℕ, zero, suc, ◌+◌, ◌-◌, ◌*◌, ◌<◌, ◌≤◌, ◌^◌, ◌%◌, Bool, true, false, List, [], ◌∷◌, ◌++◌, length, take, drop, map, replicate, refl, sym, ap, subst, ◌∙◌, append_assoc, arith}
+use Rattle.std.proofs.Common.{◌≡◌, ℕ, zero, suc, ◌+◌, ◌-◌, ◌<◌, ◌^◌, Bool, true, false, List, [], ◌∷◌, ◌++◌, length, take, drop, map, replicate, refl, sym, ap, subst, ◌∙◌, append_assoc, arith}
 use Rattle.std.specs.List.{flat_map}
-use Rattle.std.specs.Prelude.{nat_le, ◌==◌, All}
+use Rattle.std.specs.Prelude.{nat_le, ◌==◌}
 use Rattle.std.specs.Int.{w64, to_le_bytes}
 use Rattle.std.proofs.lemmas.List.{append-nil, length-append, length-replicate, take_at, drop_at}
 use Rattle.std.proofs.lemmas.Bool.{le-leb, eq-eqb}
 use Rattle.carrier_model.specs.Bytes.{le16, le32}
-use Rattle.carrier_model.specs.Grammar.{Form, gives, field, InTurn, and_then, such, placed, choice, repeat}
-use Rattle.carrier_model.specs.TnefLists.{le_number, pad4, raw, word, padded, null_of, without_null, units_of, is_size, size, sized, text, one, many}
-use Rattle.carrier_model.specs.TnefCanonical.{le_bytes, zero_padded, with_size, text_bytes}
+use Rattle.carrier_model.specs.Grammar.{Form, gives, and_then, placed, choice, repeat}
+use Rattle.carrier_model.specs.TnefLists.{le_number, pad4, raw, word, padded, null_of, without_null, is_size, size, sized, text, many}
+use Rattle.carrier_model.specs.TnefCanonical.{zero_padded, with_size, text_bytes}
 
 -- ---- forms
 

@@ -1,19 +1,19 @@
 -- What the attributes of a stream give by themselves is in the form and the range of its kind.
-use Rattle.std.proofs.Common.{◌≡◌, ℕ, zero, suc, ◌+◌, ◌-◌, ◌*◌, ◌<◌, ◌≤◌, ◌^◌, Bool, true, false, cond, List, [], ◌∷◌, ◌++◌, length, take, drop, refl, sym, ap, subst, ◌∙◌, arith}
-use Rattle.std.specs.List.{flat_map, cons_option}
+use Rattle.std.proofs.Common.{◌≡◌, ℕ, zero, suc, ◌+◌, ◌-◌, ◌*◌, ◌<◌, ◌≤◌, ◌^◌, Bool, true, false, cond, List, [], ◌∷◌, ◌++◌, length, take, drop, refl, arith}
+use Rattle.std.specs.List.{flat_map, cons_option, AllByRecursion}
 use Rattle.std.specs.Option.{option_map}
 use Rattle.std.specs.Prelude.{◌==◌, ◌||◌, ◌&&◌, nat_lt, nat_le, Option, Some, None, codes, bytes_eq, slice_index}
-use Rattle.std.proofs.lemmas.List.{length-append, length-take}
+use Rattle.std.proofs.lemmas.List.{length-append}
 use Rattle.std.proofs.lemmas.Bool.{leb-true, and_parts}
 use Rattle.carrier_model.specs.Bytes.{AllBytes, le16, le32, sum16}
 use Rattle.carrier_model.specs.Attributes.{Attr, spelling, SIGNATURE, Attrs}
 use Rattle.carrier_model.specs.Keys.{id}
-use Rattle.carrier_model.specs.Values.{Value, number, bytes, Prop, IsValue}
-use Rattle.carrier_model.specs.Moments.{is_leap, month_days, days_of_years, days_of_months, day_number, second_number, is_moment, ticks_of}
+use Rattle.carrier_model.specs.Values.{Value, number, bytes, IsValue}
+use Rattle.carrier_model.specs.Moments.{is_leap, month_days, days_of_years, days_of_months, is_moment, ticks_of}
 use Rattle.carrier_model.specs.TnefLists.{le_number, without_null, units_of}
 use Rattle.carrier_model.specs.LegacyAttributes.{Rule, class, text, binary, date, page, position, Row, message_rows, attachment_rows, meetings, meeting_class, class_of, number32, value_by, prop_by, legacy_prop}
 use Rattle.carrier_model.proofs.Numbers.{AllBytes-drop}
-use Rattle.carrier_model.proofs.CanonicalLists.{Each, IsListed}
+use Rattle.carrier_model.proofs.CanonicalLists.{IsListed}
 use Rattle.carrier_model.proofs.ReadValues.{Fit, fit_front, fit_back, without_null-shorter}
 
 -- ---- the bytes of attributes
@@ -28,11 +28,11 @@ spelling_fits a h =
     let back : Fit (a.bytes ++ le16 (sum16 a.bytes)) = fit_back (spelling a) (a.level ∷ (le32 a.id ++ le32 (length a.bytes))) (a.bytes ++ le16 (sum16 a.bytes)) refl h in
     record { fit = fit_front (a.bytes ++ le16 (sum16 a.bytes)) a.bytes (le16 (sum16 a.bytes)) refl back; short = omega (arith, h.short, length-append a.bytes (le16 (sum16 a.bytes))) }
 
-spellings_fit : (l : List Attr) → Fit (flat_map spelling l) → Each AttrFit l
+spellings_fit : (l : List Attr) → Fit (flat_map spelling l) → AllByRecursion AttrFit l
 spellings_fit [] h = tt
 spellings_fit (a ∷ l) h = (spelling_fits a (fit_front (flat_map spelling (a ∷ l)) (spelling a) (flat_map spelling l) refl h), spellings_fit l (fit_back (flat_map spelling (a ∷ l)) (spelling a) (flat_map spelling l) refl h))
 
-pub attrs_fit : (at : ℕ) (s : List ℕ) (l : List Attr) → Fit s → Attrs at s l → Each AttrFit l
+pub attrs_fit : (at : ℕ) (s : List ℕ) (l : List Attr) → Fit s → Attrs at s l → AllByRecursion AttrFit l
 attrs_fit at s l h a =
     let behind = a.key ++ flat_map spelling l in
     spellings_fit l (fit_back behind a.key (flat_map spelling l) refl (fit_back s (le32 SIGNATURE) behind a.parts h))
@@ -147,18 +147,18 @@ abbrev EachId : List Row → Type 0
 EachId [] = Unit {0}
 EachId (row ∷ rows) = (row.1 < 0x8000) × EachId rows
 
-prop_listed : (n : ℕ) (o : Option Value) → n < 0x8000 → ValueFits o → Each IsListed (cons_option (option_map (λ v. record { key = id n; value = v }) o) [])
+prop_listed : (n : ℕ) (o : Option Value) → n < 0x8000 → ValueFits o → AllByRecursion IsListed (cons_option (option_map (λ v. record { key = id n; value = v }) o) [])
 prop_listed n None lt h = tt
 prop_listed n (Some v) lt h = (record { good = record { key = lt; value = h }; units = tt }, tt)
 
-rows_listed : (rows : List Row) (n : ℕ) (x : List ℕ) → EachId rows → AllBytes x → IsShort x → Each IsListed (cons_option (prop_by rows n x) [])
+rows_listed : (rows : List Row) (n : ℕ) (x : List ℕ) → EachId rows → AllBytes x → IsShort x → AllByRecursion IsListed (cons_option (prop_by rows n x) [])
 rows_listed [] n x ids h lt = tt
 rows_listed (row ∷ rows) n x ids h lt = by (row.0 == n) (rows_listed rows n x ids.1 h lt)
   where
-    by : (b : Bool) → Each IsListed (cons_option (prop_by rows n x) []) → Each IsListed (cons_option (cond b (option_map (λ v. record { key = id row.1; value = v }) (value_by row.2 x)) (prop_by rows n x)) [])
+    by : (b : Bool) → AllByRecursion IsListed (cons_option (prop_by rows n x) []) → AllByRecursion IsListed (cons_option (cond b (option_map (λ v. record { key = id row.1; value = v }) (value_by row.2 x)) (prop_by rows n x)) [])
     by true rest = prop_listed row.1 (value_by row.2 x) ids.0 (value_fits row.2 x h lt)
     by false rest = rest
 
-pub legacy_listed : (a : Attr) → AttrFit a → Each IsListed (cons_option (legacy_prop a.id a.bytes) [])
+pub legacy_listed : (a : Attr) → AttrFit a → AllByRecursion IsListed (cons_option (legacy_prop a.id a.bytes) [])
 legacy_listed a h = rows_listed (message_rows ++ attachment_rows) a.id a.bytes
     (omega arith, (omega arith, (omega arith, (omega arith, (omega arith, (omega arith, (omega arith, (omega arith, (omega arith, (omega arith, (omega arith, (omega arith, (omega arith, (omega arith, tt)))))))))))))) h.fit.bytes h.short

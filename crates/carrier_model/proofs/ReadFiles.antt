@@ -1,8 +1,8 @@
 -- The streams of a compound file are made of its bytes, and are shorter than it.
-use Rattle.std.proofs.Common.{◌≡◌, ℕ, zero, suc, ◌+◌, ◌-◌, ◌*◌, ◌/◌, ◌%◌, ◌<◌, ◌≤◌, ◌^◌, min, Bool, true, false, cond, List, [], ◌∷◌, ◌++◌, length, get_or, map, refl, sym, ap, subst, ◌∙◌, inl, inr, arith}
+use Rattle.std.proofs.Common.{◌≡◌, ℕ, zero, suc, ◌+◌, ◌-◌, ◌/◌, ◌<◌, ◌≤◌, Bool, true, false, cond, List, [], ◌∷◌, ◌++◌, length, get_or, refl, sym, subst, ◌∙◌, arith}
 use Rattle.std.specs.Prelude.{nat_eq, nat_le, ◌||◌, IsTrue, Option, Some, None}
 use Rattle.std.specs.Int.{div_ceil}
-use Rattle.std.specs.List.{range_with_len, list_any, AllByRecursion}
+use Rattle.std.specs.List.{AllByRecursion}
 use Rattle.std.proofs.lemmas.List.FromFn.{length-map-range_with_len}
 use Rattle.std.proofs.lemmas.List.{length-map}
 use Rattle.std.proofs.lemmas.Bool.{eqb-true, eq-eqb, leb-true, leb-false}
@@ -10,12 +10,12 @@ use Rattle.std.proofs.lemmas.List.Folds.{list_any-append}
 use Rattle.carrier_model.specs.Bytes.{AllBytes}
 use Rattle.carrier_model.specs.Chains.{member}
 use Rattle.carrier_model.specs.Entries.{Entry}
-use Rattle.carrier_model.specs.Links.{Directory, Links, leaf, node, Linked, ids, is_storage, has_type}
-use Rattle.carrier_model.specs.Loads.{Loaded, Table, Mini, chain_bound, is_long, long_stream, short_stream, stream_of}
+use Rattle.carrier_model.specs.Links.{Directory, Links, leaf, node, ids, is_storage, has_type}
+use Rattle.carrier_model.specs.Loads.{Loaded, Mini, chain_bound, long_stream, short_stream, stream_of}
 use Rattle.carrier_model.specs.Sectors.{is_size, sector_count}
-use Rattle.carrier_model.specs.Streams.{Stream, place_in, places_of, starts_of, mini_starts, content, stream_at}
-use Rattle.carrier_model.specs.Files.{Children, none, storage, stream, Files, Tag, name_of, directory_in, stream_ids, tree_of, files_of}
-use Rattle.carrier_model.specs.Holds.{IsStream, IsLong, Holds}
+use Rattle.carrier_model.specs.Streams.{Stream, place_in, places_of, starts_of, mini_starts, content}
+use Rattle.carrier_model.specs.Files.{Children, none, storage, stream, Files, Tag, name_of, directory_in, stream_ids, tree_of}
+use Rattle.carrier_model.specs.Holds.{IsStream, Holds}
 use Rattle.carrier_model.specs.Lookups.{Found, same_name, storage_at, stream_named, storage_named}
 use Rattle.carrier_model.proofs.HoldsLaws.{chain_length, linked_each, stream_member}
 

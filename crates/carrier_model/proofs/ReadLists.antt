@@ -1,24 +1,25 @@
 -- What is read of a property list is one.
-use Rattle.std.proofs.Common.{◌≡◌, ◌⊎◌, inl, inr, ℕ, zero, suc, ◌+◌, ◌-◌, ◌*◌, ◌/◌, ◌<◌, ◌≤◌, ◌^◌, ◌%◌, Bool, true, false, cond, List, [], ◌∷◌, ◌++◌, length, map, get_or, refl, sym, ap, subst, ◌∙◌, arith}
-use Rattle.std.specs.Prelude.{nat_le, nat_lt, ◌==◌, ◌||◌, ◌&&◌, All, Option, Some, None, filter_map}
+use Rattle.std.proofs.Common.{◌≡◌, ℕ, zero, suc, ◌+◌, ◌/◌, ◌<◌, ◌≤◌, ◌^◌, ◌%◌, Bool, true, false, List, [], ◌∷◌, length, refl, sym, ap, subst, ◌∙◌, arith}
+use Rattle.std.specs.List.{AllByRecursion}
+use Rattle.std.specs.Prelude.{nat_lt, ◌==◌, ◌||◌, ◌&&◌, All, Option, Some, None, filter_map}
 use Rattle.std.specs.Ordering.{ordering_reverse}
 use Rattle.std.specs.declared.cmp.Ordering.{Ordering}
 use Rattle.std.specs.declared.cmp.Ordering.TheVariants.{Less, Equal, Greater}
 use Rattle.std.proofs.lemmas.Bool.{leb-true, ltb-true}
 use Rattle.carrier_model.specs.Bytes.{AllBytes}
-use Rattle.carrier_model.specs.Grammar.{Form, gives, InTurn, and_then, such, placed, choice, repeat}
-use Rattle.carrier_model.specs.Keys.{Name, numbered, texted, Key, id, named, IsName, IsKey}
-use Rattle.carrier_model.specs.Values.{Value, Prop, IsValue, IsProp, prop_cmp}
+use Rattle.carrier_model.specs.Grammar.{gives, and_then, choice}
+use Rattle.carrier_model.specs.Keys.{Name, Key, id, named, IsName, IsKey}
+use Rattle.carrier_model.specs.Values.{Prop, IsProp, prop_cmp}
 use Rattle.carrier_model.specs.Sorted.{IsStrictlySorted, choose, with_element, with_elements}
 use Rattle.carrier_model.specs.Trees.{HasUnits, KeyHasUnits, IsPropList}
-use Rattle.carrier_model.specs.TnefLists.{raw, word, pad4, without_null, units_of, name_size, name_units, name_text, name_number, name, key, value, sized, one, is_kind, OBJECT, ATTACHED_OBJECT, Item, kept, passed, carried, tag, object, property, described, any_item, item, items, prop_in, content_in, first_of_list, PropList, list_of, prop_list, recipient_lists}
+use Rattle.carrier_model.specs.TnefLists.{without_null, units_of, name_units, name_text, name_number, name, key, sized, is_kind, OBJECT, ATTACHED_OBJECT, Item, kept, passed, carried, tag, object, property, described, any_item, item, items, prop_in, content_in, first_of_list, PropList, list_of, prop_list, recipient_lists}
 use Rattle.carrier_model.proofs.Orders.{prop_total}
-use Rattle.carrier_model.proofs.CanonicalLists.{Each, each_of, Above, Rising, rising, IsListed, each_listed}
+use Rattle.carrier_model.proofs.CanonicalLists.{Above, Rising, IsListed}
 use Rattle.carrier_model.proofs.ReadValues.{Fit, fit_front, fit_back, part_length, word_reads, sized_reads, without_null-fit, Reads, repeat_reads, many_reads, all_of, value_reads}
 
 -- ---- names and keys
 
-pub units_below : (x : List ℕ) → AllBytes x → Each (λ unit. unit < 2 ^ 16) (units_of x)
+pub units_below : (x : List ℕ) → AllBytes x → AllByRecursion (λ unit. unit < 2 ^ 16) (units_of x)
 units_below [] h = tt
 units_below (low ∷ []) h = tt
 units_below (low ∷ high ∷ x) h =
@@ -34,13 +35,13 @@ number_reads : (at : ℕ) (set : List ℕ) (x : Name) (s : List ℕ) → Fit s �
 unfolding name_number
 number_reads at set x s h len p = subst NameRead (sym p.second.0) (record { is = (len, (word_reads at p.x p.front (fit_front s p.front p.back p.parts h).bytes p.first).below); units = tt })
 
-units_read : (at : ℕ) (t : ℕ × List ℕ) (s : List ℕ) → Fit s → name_units.spells at t s → Each (λ unit. unit < 2 ^ 16) t.1
+units_read : (at : ℕ) (t : ℕ × List ℕ) (s : List ℕ) → Fit s → name_units.spells at t s → AllByRecursion (λ unit. unit < 2 ^ 16) t.1
 unfolding name_units
 units_read at t s h p =
     let q = p.second in
     let front = fit_front p.back q.front q.back q.parts (fit_back s p.front p.back p.parts h) in
     let bytes : AllBytes q.x = subst AllBytes (sym q.first.0) front.bytes in
-    subst (λ z. Each (λ unit. unit < 2 ^ 16) z) (sym (ap (λ z. z.1) q.second.0)) (units_below (without_null 2 q.x) (without_null-fit 2 q.x bytes))
+    subst (λ z. AllByRecursion (λ unit. unit < 2 ^ 16) z) (sym (ap (λ z. z.1) q.second.0)) (units_below (without_null 2 q.x) (without_null-fit 2 q.x bytes))
 
 text_reads : (at : ℕ) (set : List ℕ) (x : Name) (s : List ℕ) → Fit s → length set ≡ 16 → (name_text set).spells at x s → NameRead x
 unfolding name_text
@@ -116,11 +117,11 @@ item_reads in_attachment before at x s h p =
 
 -- ---- lists
 
-each_with : (P : Prop → Type 0) (ps : List Prop) (p : Prop) → P p → Each P ps → Each P (with_element prop_cmp ps p)
+each_with : (P : Prop → Type 0) (ps : List Prop) (p : Prop) → P p → AllByRecursion P ps → AllByRecursion P (with_element prop_cmp ps p)
 each_with P [] p h e = (h, tt)
 each_with P (q ∷ ps) p h e = by (prop_cmp q p) (each_with P ps p h e.1)
   where
-    by : (o : Ordering) → Each P (with_element prop_cmp ps p) → Each P (choose o (q ∷ with_element prop_cmp ps p) (q ∷ ps) (p ∷ q ∷ ps))
+    by : (o : Ordering) → AllByRecursion P (with_element prop_cmp ps p) → AllByRecursion P (choose o (q ∷ with_element prop_cmp ps p) (q ∷ ps) (p ∷ q ∷ ps))
     by Less rest = (e.0, rest)
     by Equal rest = e
     by Greater rest = (h, e)
@@ -141,12 +142,12 @@ rising_with (q ∷ ps) p h = by (prop_cmp q p) refl (rising_with ps p h.1)
 -- a list that rises, of properties as a list has them
 pub record Good (ps : List Prop) : Type 0 where
   pub rises : Rising ps
-  pub each : Each IsListed ps
+  pub each : AllByRecursion IsListed ps
 
 pub good_none : Good []
 good_none = record { rises = tt; each = tt }
 
-pub good_with : (ps more : List Prop) → Good ps → Each IsListed more → Good (with_elements prop_cmp ps more)
+pub good_with : (ps more : List Prop) → Good ps → AllByRecursion IsListed more → Good (with_elements prop_cmp ps more)
 good_with ps [] h g = h
 good_with ps (p ∷ more) h g = good_with (with_element prop_cmp ps p) more (record { rises = rising_with ps p h.rises; each = each_with IsListed ps p g.0 h.each }) g.1
 
@@ -157,12 +158,12 @@ sorted_of (p ∷ ps) h zero (suc j) d lt in_range = all_of (λ q. prop_cmp p q �
 sorted_of (p ∷ ps) h (suc i) zero d lt in_range = absurd (omega (arith, lt))
 sorted_of (p ∷ ps) h (suc i) (suc j) d lt in_range = sorted_of ps h.1 i j d (omega arith) (omega arith)
 
-all_props : (ps : List Prop) → Each IsListed ps → All IsProp ps
+all_props : (ps : List Prop) → AllByRecursion IsListed ps → All IsProp ps
 all_props [] h k d lt = absurd (omega (arith, lt))
 all_props (p ∷ ps) h zero d lt = h.0.good
 all_props (p ∷ ps) h (suc k) d lt = all_props ps h.1 k d (omega arith)
 
-all_units : (ps : List Prop) → Each IsListed ps → All (λ p. KeyHasUnits p.key) ps
+all_units : (ps : List Prop) → AllByRecursion IsListed ps → All (λ p. KeyHasUnits p.key) ps
 all_units [] h k d lt = absurd (omega (arith, lt))
 all_units (p ∷ ps) h zero d lt = h.0.units
 all_units (p ∷ ps) h (suc k) d lt = all_units ps h.1 k d (omega arith)
@@ -170,7 +171,7 @@ all_units (p ∷ ps) h (suc k) d lt = all_units ps h.1 k d (omega arith)
 pub list_from_good : (ps : List Prop) → Good ps → IsPropList ps
 list_from_good ps h = record { sorted = sorted_of ps h.rises; each = all_props ps h.each; units = all_units ps h.each }
 
-props_read : (l : List Item) → Each IsRead l → Each IsListed (filter_map prop_in l)
+props_read : (l : List Item) → AllByRecursion IsRead l → AllByRecursion IsListed (filter_map prop_in l)
 props_read [] h = tt
 props_read (kept p ∷ l) h = (h.0, props_read l h.1)
 props_read (passed t place ∷ l) h = props_read l h.1
@@ -180,7 +181,7 @@ abbrev pub ObjectFits : Option (ℕ × List ℕ) → Type 0
 ObjectFits None = Unit {0}
 ObjectFits (Some x) = Fit x.1
 
-object_read : (l : List Item) → Each IsRead l → ObjectFits (first_of_list (filter_map content_in l))
+object_read : (l : List Item) → AllByRecursion IsRead l → ObjectFits (first_of_list (filter_map content_in l))
 object_read [] h = tt
 object_read (kept p ∷ l) h = object_read l h.1
 object_read (passed t place ∷ l) h = object_read l h.1
@@ -200,6 +201,6 @@ list_reads in_attachment at l s h p =
     let read : ListRead (list_of p.x) = record { good = good_with [] (filter_map prop_in p.x) good_none (props_read p.x r.each); object = object_read p.x r.each } in
     (subst ListRead (sym p.second.0) read, omega (arith, w.len, part_length p.front q.front q.back q.parts, part_length s p.front p.back p.parts))
 
-pub recipients_read : (at : ℕ) (lists : List PropList) (s : List ℕ) → Fit s → recipient_lists.spells at lists s → Each ListRead lists
+pub recipients_read : (at : ℕ) (lists : List PropList) (s : List ℕ) → Fit s → recipient_lists.spells at lists s → AllByRecursion ListRead lists
 unfolding recipient_lists
 recipients_read at lists s h p = (many_reads (prop_list false) ListRead (list_reads false) at lists s h p).each

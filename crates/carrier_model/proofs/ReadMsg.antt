@@ -1,24 +1,22 @@
 -- What a .msg file means is a tree.
-use Rattle.std.proofs.Common.{◌≡◌, ◌⊎◌, ℕ, zero, suc, ◌+◌, ◌-◌, ◌*◌, ◌/◌, ◌%◌, ◌<◌, ◌≤◌, ◌^◌, min, Bool, true, false, cond, List, [], ◌∷◌, ◌++◌, length, take, drop, get_or, map, Option, Some, None, refl, sym, ap, subst, ◌∙◌, inl, inr, arith}
-use Rattle.std.specs.Prelude.{nat_eq, nat_le, nat_lt, ◌==◌, ◌||◌, ◌&&◌, not, All, IsTrue, IsPermutation, Result, Ok, Err, find, filter_map, is_some}
+use Rattle.std.proofs.Common.{◌≡◌, ℕ, zero, suc, ◌+◌, ◌-◌, ◌*◌, ◌/◌, ◌%◌, ◌<◌, ◌≤◌, ◌^◌, Bool, true, false, cond, List, [], ◌∷◌, ◌++◌, length, take, drop, map, Option, Some, None, refl, sym, ap, subst, ◌∙◌, inl, inr, arith}
+use Rattle.std.specs.Prelude.{nat_eq, nat_lt, ◌==◌, ◌||◌, ◌&&◌, not, All, IsTrue, Result, Ok, find, filter_map}
 use Rattle.std.specs.Option.{option_map}
-use Rattle.std.specs.List.{range_with_len, AllZip}
-use Rattle.std.proofs.lemmas.List.{length-append, length-take, length-drop, length-map}
+use Rattle.std.specs.List.{range_with_len, AllZip, AllByRecursion}
+use Rattle.std.proofs.lemmas.List.{length-take, length-drop, length-map}
 use Rattle.std.proofs.Math.Nat.{mul-le-mul_left, mul-div-le, mul-suc, div-le_self}
 use Rattle.std.proofs.lemmas.List.FromFn.{length-map-range_with_len}
 use Rattle.std.proofs.lemmas.List.Sorted.{All-permutation}
-use Rattle.std.proofs.lemmas.Bool.{eqb-true, eqb-false, leb-true, ltb-true, and_parts}
+use Rattle.std.proofs.lemmas.Bool.{eqb-true, eqb-false, leb-true, ltb-true}
 use Rattle.carrier_model.specs.Bytes.{AllBytes}
 use Rattle.carrier_model.specs.Trail.{Fault, Test, first_fault}
-use Rattle.carrier_model.specs.Outcomes.{◌>>=◌, check, mapped}
+use Rattle.carrier_model.specs.Outcomes.{mapped}
 use Rattle.carrier_model.specs.Turns.{tested, unless, found}
-use Rattle.carrier_model.specs.Sectors.{is_size, u32_of}
-use Rattle.carrier_model.specs.Streams.{Stream}
-use Rattle.carrier_model.specs.Files.{Children, none, storage, stream, Files}
-use Rattle.carrier_model.specs.Lookups.{Found, bytes_at, size_place, size_place_at, stream_named, storage_named}
+use Rattle.carrier_model.specs.Sectors.{u32_of}
+use Rattle.carrier_model.specs.Lookups.{Found, bytes_at, size_place}
 use Rattle.carrier_model.specs.Keys.{Name, numbered, texted, Key, id, named, IsName, IsKey}
-use Rattle.carrier_model.specs.Values.{Value, number, guid, bytes, numbers, guids, parts, Prop, IsValue, IsBytes, IsProp, number_widths, numbers_widths, width_in, is_bytes_kind, list_limit}
-use Rattle.carrier_model.specs.Trees.{HasUnits, KeyHasUnits, IsPropList, HasPropLists, HavePropLists, BodyHasPropLists, IsTree}
+use Rattle.carrier_model.specs.Values.{Value, number, guid, bytes, numbers, guids, parts, Prop, IsValue, IsBytes, number_widths, numbers_widths, width_in, is_bytes_kind, list_limit}
+use Rattle.carrier_model.specs.Trees.{HasUnits, KeyHasUnits, IsPropList}
 use Rattle.carrier_model.specs.TnefLists.{le_number, bits_of, units_of, null_of, without_null, is_number_kind, is_numbers_kind, is_kind, OBJECT, ATTACHED_OBJECT}
 use Rattle.carrier_model.specs.MsgValues.{Streams, PropEntry, kind_in, id_in, size_in, step_of, fits_kind, means_empty, pieces_of, Element, elements_of, form_test, presence_test, parts_of, streamed_value, stored_value, value_of}
 use Rattle.carrier_model.specs.WrittenNames.{value_name, PS_MAPI, PS_PUBLIC_STRINGS}
@@ -31,8 +29,8 @@ use Rattle.carrier_model.proofs.Attributes.{passing, AllHold}
 use Rattle.carrier_model.proofs.Turns.{bind_ok, check_ok, mapped_ok, found_ok, ok_same}
 use Rattle.carrier_model.proofs.Numbers.{AllBytes-drop, AllBytes-take, number32-below}
 use Rattle.carrier_model.proofs.CanonicalKinds.{bytes_kinds}
-use Rattle.carrier_model.proofs.CanonicalLists.{Each, IsListed}
-use Rattle.carrier_model.proofs.ReadValues.{top, width_below, bits_below, bits_boolean, top_number, top_numbers, without_null-shorter, without_null-even, without_null-fit, all_of, each_map, last_kind}
+use Rattle.carrier_model.proofs.CanonicalLists.{IsListed}
+use Rattle.carrier_model.proofs.ReadValues.{top, width_below, bits_below, bits_boolean, top_number, top_numbers, without_null-shorter, without_null-even, all_of, each_map, last_kind}
 use Rattle.carrier_model.proofs.ReadFiles.{Short, FoundFits}
 
 -- ---- numbers
@@ -87,7 +85,7 @@ cut_value kind = bytes_kinds CutEach kind
     (λ x h e. record { kind_is = refl; short = omega (arith, h.few, without_null-shorter 0 x); even = λ f. absurd (omega (arith, f)) })
 
 -- pieces are of one width, and of bytes
-each_piece : {A : Type 0} (P : A → Type 0) (f : ℕ → A) (a n : ℕ) → ((i : ℕ) → a ≤ i → i < a + n → P (f i)) → Each P (map f (range_with_len a n))
+each_piece : {A : Type 0} (P : A → Type 0) (f : ℕ → A) (a n : ℕ) → ((i : ℕ) → a ≤ i → i < a + n → P (f i)) → AllByRecursion P (map f (range_with_len a n))
 each_piece P f a zero h = tt
 each_piece P f a (suc n) h = (h a (omega arith) (omega arith), each_piece P f (a + 1) n (λ i low high. h i (omega (arith, low)) (omega (arith, high))))
 
@@ -102,7 +100,7 @@ piece_room width i n lt some =
     let all : width * (n / width) ≤ n = mul-div-le n width in
     omega (arith, room, all, mul-suc width i)
 
-pieces_each : (width : ℕ) (x : List ℕ) → 0 < width → AllBytes x → Each (IsPiece width) (pieces_of width x)
+pieces_each : (width : ℕ) (x : List ℕ) → 0 < width → AllBytes x → AllByRecursion (IsPiece width) (pieces_of width x)
 pieces_each width x some h = each_piece (IsPiece width) (λ i. take width (drop (width * i) x)) 0 (length x / width)
     (λ i low high. record {
       len = omega (arith, length-take width (drop (width * i) x), length-drop (width * i) x, piece_room width i (length x) (omega (arith, high)) some);
@@ -125,20 +123,20 @@ record IsElement (single : ℕ) (x : Element) : Type 0 where
   fits : FoundFits x.stream
   form : fits_kind single (length (bytes_at x.stream)) ≡ true
 
-elements_fit : (single : ℕ) (xs : List Element) → Each (λ (x : Element). FoundFits x.stream) xs → AllHold (map (form_test single) xs) → Each (IsElement single) xs
+elements_fit : (single : ℕ) (xs : List Element) → AllByRecursion (λ (x : Element). FoundFits x.stream) xs → AllHold (map (form_test single) xs) → AllByRecursion (IsElement single) xs
 elements_fit single [] h t = tt
 elements_fit single (x ∷ xs) h t = (record { fits = h.0; form = t.0 }, elements_fit single xs h.1 t.1)
 
-parts_read : (single place : ℕ) (xs : List Element) (list : List (List ℕ)) → IsTrue (is_bytes_kind single) → Each (λ (x : Element). FoundFits x.stream) xs → parts_of single place xs ≡ Ok list → Each (IsBytes single) list × (length list ≡ length xs)
+parts_read : (single place : ℕ) (xs : List Element) (list : List (List ℕ)) → IsTrue (is_bytes_kind single) → AllByRecursion (λ (x : Element). FoundFits x.stream) xs → parts_of single place xs ≡ Ok list → AllByRecursion (IsBytes single) list × (length list ≡ length xs)
 unfolding parts_of
 parts_read single place xs list e h is =
     let (u, t, out) = bind_ok (tested (map (form_test single) xs ++ map (presence_test single place) xs)) _ list is in
     let hold = passing (map (form_test single) xs ++ map (presence_test single place) xs) (tested_ok (first_fault (map (form_test single) xs ++ map (presence_test single place) xs)) u t) in
     let fit = elements_fit single xs h (hold_front (map (form_test single) xs) (map (presence_test single place) xs) hold) in
     let cut = λ (x : Element). without_null (null_of single) (bytes_at x.stream) in
-    let each : Each (IsBytes single) (map cut xs) = each_map (IsElement single) (IsBytes single) cut (λ x f. cut_value single e (bytes_at x.stream) (bytes_fit x.stream f.fits) f.form) xs fit in
+    let each : AllByRecursion (IsBytes single) (map cut xs) = each_map (IsElement single) (IsBytes single) cut (λ x f. cut_value single e (bytes_at x.stream) (bytes_fit x.stream f.fits) f.form) xs fit in
     let same : list ≡ map cut xs = ok_same (Ok _) (map cut xs) list refl out in
-    (subst (λ z. Each (IsBytes single) z) (sym same) each, ap length same ∙ length-map xs cut)
+    (subst (λ z. AllByRecursion (IsBytes single) z) (sym same) each, ap length same ∙ length-map xs cut)
 
 -- what a stream's bytes need for a value of a kind
 record Stored (kind : ℕ) (x : List ℕ) : Type 0 where
@@ -157,7 +155,7 @@ numbers_value kind x h e is =
     let w = width_in numbers_widths kind in
     let some : 0 < w = ltb-true 0 w e in
     let pieces = pieces_each w x some h.bytes in
-    let each : Each (λ (n : ℕ). n < 2 ^ (8 * w)) (map le_number (pieces_of w x)) = each_map (IsPiece w) (λ (n : ℕ). n < 2 ^ (8 * w)) le_number (λ y p. width_below w (2 ^ (8 * w)) y (top_numbers kind some) p.len p.bytes) (pieces_of w x) pieces in
+    let each : AllByRecursion (λ (n : ℕ). n < 2 ^ (8 * w)) (map le_number (pieces_of w x)) = each_map (IsPiece w) (λ (n : ℕ). n < 2 ^ (8 * w)) le_number (λ y p. width_below w (2 ^ (8 * w)) y (top_numbers kind some) p.len p.bytes) (pieces_of w x) pieces in
     let few : length (map le_number (pieces_of w x)) < list_limit = omega (arith, length-map (pieces_of w x) le_number, length-pieces w x, h.few) in
     let value : IsValue (numbers kind (map le_number (pieces_of w x))) = (all_of (λ n. n < 2 ^ (8 * w)) (map le_number (pieces_of w x)) each, some, few) in
     subst (λ k. IsValue (numbers kind (map le_number (pieces_of k x)))) (sym is) value
@@ -167,7 +165,7 @@ guids_value x h =
     let pieces = pieces_each 16 x (omega arith) h.bytes in
     (all_of (λ g. length g ≡ 16) (pieces_of 16 x) (each_same (pieces_of 16 x) pieces), omega (arith, length-pieces 16 x, h.few))
   where
-    each_same : (l : List (List ℕ)) → Each (IsPiece 16) l → Each (λ g. length g ≡ 16) l
+    each_same : (l : List (List ℕ)) → AllByRecursion (IsPiece 16) l → AllByRecursion (λ g. length g ≡ 16) l
     each_same [] p = tt
     each_same (g ∷ l) p = (p.0.len, each_same l p.1)
 
@@ -175,7 +173,7 @@ parts_value : (streams : Streams) (e : PropEntry) (x : List ℕ) (v : Value) →
 parts_value streams e x v h short le t is =
     let (list, out, same) = mapped_ok (parts (kind_in e)) (parts_of (kind_in e - 0x1000) e.place (elements_of streams e.tag x)) v is in
     let step = step_of (e.tag % 0x10000) in
-    let fit : Each (λ (y : Element). FoundFits y.stream) (elements_of streams e.tag x) = each_piece (λ (y : Element). FoundFits y.stream) (λ i. record { stream = streams (element_name e.tag i); size = u32_of x (step * i) }) 0 (length x / step) (λ i low high. h (element_name e.tag i)) in
+    let fit : AllByRecursion (λ (y : Element). FoundFits y.stream) (elements_of streams e.tag x) = each_piece (λ (y : Element). FoundFits y.stream) (λ i. record { stream = streams (element_name e.tag i); size = u32_of x (step * i) }) 0 (length x / step) (λ i low high. h (element_name e.tag i)) in
     let r = parts_read (kind_in e - 0x1000) e.place (elements_of streams e.tag x) list t fit out in
     let count : length (elements_of streams e.tag x) ≤ length x = omega (arith, length-map-range_with_len (λ i. (let y : Element = record { stream = streams (element_name e.tag i); size = u32_of x (step * i) } in y)) 0 (length x / step), div-le_self (length x) step) in
     subst IsValue (sym same) (all_of (IsBytes (kind_in e - 0x1000)) list r.0, le, t, omega (arith, r.1, count, short.few))
@@ -244,7 +242,7 @@ pub record NameFits (x : Name) : Type 0 where
   pub units : HasUnits x
 
 abbrev pub PairsFit : List Pair → Type 0
-PairsFit pairs = Each (λ (p : Pair). NameFits p.1) pairs
+PairsFit pairs = AllByRecursion (λ (p : Pair). NameFits p.1) pairs
 
 few_units : (x : List ℕ) → 2 * length (units_of x) ≤ length x
 few_units [] = omega arith
@@ -273,13 +271,13 @@ name_fits s e (texted set units) sets texts lt some h =
     let size = u32_of s.texts.bytes e.identifier in
     let x = take size (drop (e.identifier + 4) s.texts.bytes) in
     let bytes : AllBytes x = AllBytes-take size (drop (e.identifier + 4) s.texts.bytes) (AllBytes-drop (e.identifier + 4) s.texts.bytes texts) in
-    let each : Each (λ unit. unit < 2 ^ 16) units = subst (λ z. Each (λ unit. unit < 2 ^ 16) z) (sym t.is) (units_below x bytes) in
+    let each : AllByRecursion (λ unit. unit < 2 ^ 16) units = subst (λ z. AllByRecursion (λ unit. unit < 2 ^ 16) z) (sym t.is) (units_below x bytes) in
     record {
       is = (ap length h.2 ∙ set_long s.guids.bytes (set_index e) some h.1, omega (arith, ap length t.is, few_units x, length-take size (drop (e.identifier + 4) s.texts.bytes), t.few));
       units = all_of (λ unit. unit < 2 ^ 16) units each;
     }
 
-pairs_fit : (s : NameStreams) (entries : List NameEntry) (pairs : List Pair) → AllBytes s.guids.bytes → AllBytes s.texts.bytes → Each (λ (e : NameEntry). e.identifier < 2 ^ 32) entries → ArePairs s entries pairs → PairsFit pairs
+pairs_fit : (s : NameStreams) (entries : List NameEntry) (pairs : List Pair) → AllBytes s.guids.bytes → AllBytes s.texts.bytes → AllByRecursion (λ (e : NameEntry). e.identifier < 2 ^ 32) entries → ArePairs s entries pairs → PairsFit pairs
 pairs_fit s [] pairs sets texts lt h = subst PairsFit (sym h) tt
 pairs_fit s (e ∷ entries) [] sets texts lt h = tt
 pairs_fit s (e ∷ entries) (p ∷ pairs) sets texts lt (inl h) = pairs_fit s entries (p ∷ pairs) sets texts lt.1 h.1
@@ -346,13 +344,13 @@ item_read part pairs streams e x h fit field is = by (is_attachment part && (e.t
         let (p, there, same) = mapped_ok kept (prop_of pairs streams e) x out in
         subst ItemFits (sym same) (prop_read pairs streams e p h fit field there)
 
-items_read : (part : Part) (pairs : List Pair) (streams : Streams) (entries : List PropEntry) (items : List Item) → PairsFit pairs → StreamsFit streams → Each (λ (e : PropEntry). AllBytes e.field) entries → AllZip (λ e x. item_of part pairs streams e ≡ Ok x) entries items → Each IsListed (filter_map prop_in items)
+items_read : (part : Part) (pairs : List Pair) (streams : Streams) (entries : List PropEntry) (items : List Item) → PairsFit pairs → StreamsFit streams → AllByRecursion (λ (e : PropEntry). AllBytes e.field) entries → AllZip (λ e x. item_of part pairs streams e ≡ Ok x) entries items → AllByRecursion IsListed (filter_map prop_in items)
 items_read part pairs streams [] [] h fit field z = tt
 items_read part pairs streams [] (x ∷ items) h fit field z = absurd z
 items_read part pairs streams (e ∷ entries) [] h fit field z = absurd z
 items_read part pairs streams (e ∷ entries) (x ∷ items) h fit field z = by x (item_read part pairs streams e x h fit field.0 z.0) (items_read part pairs streams entries items h fit field.1 z.1)
   where
-    by : (y : Item) → ItemFits y → Each IsListed (filter_map prop_in items) → Each IsListed (filter_map prop_in (y ∷ items))
+    by : (y : Item) → ItemFits y → AllByRecursion IsListed (filter_map prop_in items) → AllByRecursion IsListed (filter_map prop_in (y ∷ items))
     by (kept p) f rest = (f, rest)
     by (passed tag place) f rest = rest
     by (embedding place) f rest = rest
@@ -361,7 +359,7 @@ pub list_read : (part : Part) (pairs : List Pair) (streams : Streams) (l : Secti
 list_read part pairs streams l h fit m =
     let there : Short m.f.stream.bytes = subst FoundFits m.there (fit PROPERTIES) in
     let s = m.f.stream in
-    let field : Each (λ (e : PropEntry). AllBytes e.field) (prop_entries part s) = each_piece (λ (e : PropEntry). AllBytes e.field) (λ k. prop_entry s (head_size part + 16 * k)) 0 ((length s.bytes - head_size part) / 16)
+    let field : AllByRecursion (λ (e : PropEntry). AllBytes e.field) (prop_entries part s) = each_piece (λ (e : PropEntry). AllBytes e.field) (λ k. prop_entry s (head_size part + 16 * k)) 0 ((length s.bytes - head_size part) / 16)
     (λ i low high. AllBytes-take 8 (drop (head_size part + 16 * i + 8) s.bytes) (AllBytes-drop (head_size part + 16 * i + 8) s.bytes there.bytes)) in
     let each = items_read part pairs streams (prop_entries part s) m.items h fit field m.each in
     let all : All IsListed l.props = All-permutation IsListed (filter_map prop_in m.items) l.props m.once (all_of IsListed (filter_map prop_in m.items) each) in

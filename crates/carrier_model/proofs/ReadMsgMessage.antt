@@ -1,31 +1,27 @@
 -- The message that a .msg file means is a tree.
-use Rattle.std.proofs.Common.{◌≡◌, ℕ, zero, suc, ◌+◌, ◌<◌, ◌≤◌, Bool, true, false, cond, List, [], ◌∷◌, ◌++◌, length, map, Option, Some, None, refl, sym, ap, subst, ◌∙◌, arith}
-use Rattle.std.specs.Prelude.{All, IsTrue, is_some, option_to_list}
+use Rattle.std.proofs.Common.{ℕ, zero, suc, ◌+◌, ◌≤◌, List, [], ◌∷◌, ◌++◌, length, map, Option, Some, None, sym, subst, arith}
+use Rattle.std.specs.Prelude.{IsTrue, option_to_list}
 use Rattle.std.specs.Option.{option_map}
-use Rattle.std.specs.List.{AllZip}
+use Rattle.std.specs.List.{AllZip, AllByRecursion}
 use Rattle.std.specs.Ordering.{nat_cmp, on}
 use Rattle.std.specs.declared.cmp.Ordering.{Ordering}
 use Rattle.std.specs.declared.cmp.Ordering.TheVariants.{Less, Equal, Greater}
 use Rattle.carrier_model.specs.Bytes.{AllBytes}
 use Rattle.carrier_model.specs.Sorted.{choose, with_element, with_elements}
 use Rattle.carrier_model.specs.Sectors.{is_size}
-use Rattle.carrier_model.specs.Streams.{Stream}
 use Rattle.carrier_model.specs.Files.{Children, none, storage, stream, Files}
 use Rattle.carrier_model.specs.Lookups.{Found, storage_at, stream_named, storage_named}
-use Rattle.carrier_model.specs.Values.{Prop}
-use Rattle.carrier_model.specs.Tree.{Message, message, Body, nothing, embedded, Attached, attachments_from, depth}
+use Rattle.carrier_model.specs.Tree.{Message, Attached, attachments_from, depth}
 use Rattle.carrier_model.specs.Trees.{IsPropList, HasPropLists, IsTree}
 use Rattle.carrier_model.specs.TnefLists.{ATTACHED_OBJECT}
 use Rattle.carrier_model.specs.TnefMessage.{Passed, Meaning, GREATEST_LEVEL}
-use Rattle.carrier_model.specs.NameMap.{NameStreams, Pair, NamePairs}
+use Rattle.carrier_model.specs.NameMap.{Pair, NamePairs}
 use Rattle.carrier_model.specs.WrittenNames.{value_name}
-use Rattle.carrier_model.specs.MsgValues.{Streams}
 use Rattle.carrier_model.specs.MsgProps.{Part, top, embedded_message, recipient, attachment, Section, MsgProps}
-use Rattle.carrier_model.specs.MsgMessage.{NAME_MAP, streams_of, stream_or_empty, name_streams_in, name_streams, RECIPIENT_NAME, ATTACHMENT_NAME, number_in, numbered_in, numbered, Carried, carried, meaning_of, Within, HasMessage, HasBody, AttachmentMeans, MessageMeans, MsgMeans, FilesMean, MsgCarrier}
-use Rattle.carrier_model.proofs.CanonicalLists.{Each}
+use Rattle.carrier_model.specs.MsgMessage.{NAME_MAP, streams_of, stream_or_empty, name_streams, RECIPIENT_NAME, ATTACHMENT_NAME, number_in, numbered_in, numbered, Carried, carried, meaning_of, Within, HasBody, AttachmentMeans, MessageMeans, MsgMeans, MsgCarrier}
 use Rattle.carrier_model.proofs.ReadValues.{all_of}
 use Rattle.carrier_model.proofs.ReadTnef.{Fits, BodyFits, AttachmentsFit, one_more}
-use Rattle.carrier_model.proofs.ReadFiles.{Short, ChildrenFit, children_fit, FoundFits, stream_named_fits, StorageFits, storage_named_fits}
+use Rattle.carrier_model.proofs.ReadFiles.{ChildrenFit, children_fit, FoundFits, stream_named_fits, StorageFits, storage_named_fits}
 use Rattle.carrier_model.proofs.ReadMsg.{StreamsFit, PairsFit, names_fit, list_read}
 
 -- ---- the names of a file
@@ -49,33 +45,33 @@ pairs_of_file root pairs h named =
 abbrev NumberedFits : ℕ × Files → Type 0
 NumberedFits p = ChildrenFit p.1.children
 
-numbered_in_fits : (prefix : List ℕ) (c : Children) → ChildrenFit c → Each NumberedFits (numbered_in prefix c)
+numbered_in_fits : (prefix : List ℕ) (c : Children) → ChildrenFit c → AllByRecursion NumberedFits (numbered_in prefix c)
 numbered_in_fits prefix none h = tt
 numbered_in_fits prefix (storage tag below rest) h = by (number_in prefix tag.name) (numbered_in_fits prefix rest h.1)
   where
-    by : (o : Option ℕ) → Each NumberedFits (numbered_in prefix rest) → Each NumberedFits (option_to_list (option_map (λ n. (n, storage_at tag below)) o) ++ numbered_in prefix rest)
+    by : (o : Option ℕ) → AllByRecursion NumberedFits (numbered_in prefix rest) → AllByRecursion NumberedFits (option_to_list (option_map (λ n. (n, storage_at tag below)) o) ++ numbered_in prefix rest)
     by None g = g
     by (Some n) g = (h.0, g)
 numbered_in_fits prefix (stream tag s rest) h = numbered_in_fits prefix rest h.1
 
-each_into : {A : Type 0} (P : A → Type 0) (cmp : A → A → Ordering) (xs : List A) (x : A) → Each P xs → P x → Each P (with_element cmp xs x)
+each_into : {A : Type 0} (P : A → Type 0) (cmp : A → A → Ordering) (xs : List A) (x : A) → AllByRecursion P xs → P x → AllByRecursion P (with_element cmp xs x)
 each_into P cmp [] x h g = (g, tt)
 each_into P cmp (y ∷ ys) x h g = by (cmp y x) (each_into P cmp ys x h.1 g)
   where
-    by : (o : Ordering) → Each P (with_element cmp ys x) → Each P (choose o (y ∷ with_element cmp ys x) (y ∷ ys) (x ∷ y ∷ ys))
+    by : (o : Ordering) → AllByRecursion P (with_element cmp ys x) → AllByRecursion P (choose o (y ∷ with_element cmp ys x) (y ∷ ys) (x ∷ y ∷ ys))
     by Less rest = (h.0, rest)
     by Equal rest = h
     by Greater rest = (g, h)
 
-all_into : {A : Type 0} (P : A → Type 0) (cmp : A → A → Ordering) (xs ys : List A) → Each P xs → Each P ys → Each P (with_elements cmp xs ys)
+all_into : {A : Type 0} (P : A → Type 0) (cmp : A → A → Ordering) (xs ys : List A) → AllByRecursion P xs → AllByRecursion P ys → AllByRecursion P (with_elements cmp xs ys)
 all_into P cmp xs [] h g = h
 all_into P cmp xs (y ∷ ys) h g = all_into P cmp (with_element cmp xs y) ys (each_into P cmp xs y h g.0) g.1
 
-seconds : (l : List (ℕ × Files)) → Each NumberedFits l → Each (λ (s : Files). ChildrenFit s.children) (map (λ p. p.1) l)
+seconds : (l : List (ℕ × Files)) → AllByRecursion NumberedFits l → AllByRecursion (λ (s : Files). ChildrenFit s.children) (map (λ p. p.1) l)
 seconds [] h = tt
 seconds (p ∷ l) h = (h.0, seconds l h.1)
 
-numbered_fits : (prefix : List ℕ) (s : Files) → ChildrenFit s.children → Each (λ (t : Files). ChildrenFit t.children) (numbered prefix s)
+numbered_fits : (prefix : List ℕ) (s : Files) → ChildrenFit s.children → AllByRecursion (λ (t : Files). ChildrenFit t.children) (numbered prefix s)
 numbered_fits prefix s h = seconds _ (all_into NumberedFits (on (λ p. p.0) nat_cmp) [] (numbered_in prefix s.children) tt (numbered_in_fits prefix s.children h))
 
 -- ---- messages
@@ -84,7 +80,7 @@ module _ (pairs : List Pair) (fit : PairsFit pairs) where
   section_list : (part : Part) (s : Files) (l : Section) → ChildrenFit s.children → MsgProps part pairs (stream_named s.children) l → IsPropList l.props
   section_list part s l h m = list_read part pairs (stream_named s.children) l fit (λ name. stream_named_fits s.children name h) m
 
-  recipients_list : (storages : List Files) (lists : List Section) → Each (λ (s : Files). ChildrenFit s.children) storages → AllZip (λ r l. MsgProps recipient pairs (stream_named r.children) l) storages lists → Each IsPropList (map (λ (l : Section). l.props) lists)
+  recipients_list : (storages : List Files) (lists : List Section) → AllByRecursion (λ (s : Files). ChildrenFit s.children) storages → AllZip (λ r l. MsgProps recipient pairs (stream_named r.children) l) storages lists → AllByRecursion IsPropList (map (λ (l : Section). l.props) lists)
   recipients_list [] [] h z = tt
   recipients_list [] (l ∷ lists) h z = absurd z
   recipients_list (s ∷ storages) [] h z = absurd z
@@ -106,7 +102,7 @@ body_read within n fits s (Some place) l (Some m) h list b =
     let below : ChildrenFit b.below.children = subst StorageFits b.there (storage_named_fits s.children (value_name ATTACHED_OBJECT) h) in
     record { list = list; body = fits b.below m below b.means }
 
-attachments_read : (pairs : List Pair) → PairsFit pairs → (within : Within) (n : ℕ) → WithinFits within n → (storages : List Files) (list : List Carried) → Each (λ (s : Files). ChildrenFit s.children) storages → AllZip (AttachmentMeans pairs within) storages list → AttachmentsFit n (attachments_from (map (λ (a : Carried). a.attached) list))
+attachments_read : (pairs : List Pair) → PairsFit pairs → (within : Within) (n : ℕ) → WithinFits within n → (storages : List Files) (list : List Carried) → AllByRecursion (λ (s : Files). ChildrenFit s.children) storages → AllZip (AttachmentMeans pairs within) storages list → AttachmentsFit n (attachments_from (map (λ (a : Carried). a.attached) list))
 attachments_read pairs fit within n fits [] [] h z = record { lists = tt; levels = omega arith }
 attachments_read pairs fit within n fits [] (a ∷ list) h z = absurd z
 attachments_read pairs fit within n fits (s ∷ storages) [] h z = absurd z

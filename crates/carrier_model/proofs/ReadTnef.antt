@@ -1,25 +1,25 @@
 -- What a TNEF stream means is a tree.
-use Rattle.std.proofs.Common.{◌≡◌, ℕ, zero, suc, ◌+◌, ◌<◌, ◌≤◌, Bool, true, false, cond, List, [], ◌∷◌, ◌++◌, length, take, drop, map, reverse, refl, sym, ap, subst, ◌∙◌, arith}
-use Rattle.std.specs.List.{flat_map, list_any, cons_option, prefix_len, take_while}
-use Rattle.std.specs.Prelude.{◌==◌, ◌||◌, ◌&&◌, Option, Some, None, All, filter, filter_map, not, zip}
+use Rattle.std.proofs.Common.{◌≡◌, ℕ, zero, suc, ◌+◌, ◌≤◌, Bool, true, false, cond, List, [], ◌∷◌, ◌++◌, length, take, drop, map, reverse, refl, sym, ap, subst, ◌∙◌, arith}
+use Rattle.std.specs.List.{flat_map, list_any, cons_option, prefix_len, take_while, AllByRecursion}
+use Rattle.std.specs.Prelude.{◌==◌, ◌||◌, ◌&&◌, Option, Some, None, filter, not, zip}
 use Rattle.std.proofs.lemmas.List.{append-nil, reverse-append, length-drop}
 use Rattle.std.proofs.lemmas.List.Folds.{list_any-append}
-use Rattle.std.proofs.lemmas.Bool.{eqb-true, and_parts}
+use Rattle.std.proofs.lemmas.Bool.{eqb-true}
 use Rattle.carrier_model.specs.Bytes.{AllBytes}
 use Rattle.carrier_model.specs.Trail.{first_fault}
 use Rattle.carrier_model.specs.Attributes.{Attr}
-use Rattle.carrier_model.specs.Grammar.{Form, Means, gives, and_then, choice, Whole, inside}
+use Rattle.carrier_model.specs.Grammar.{gives, and_then, choice, Whole}
 use Rattle.carrier_model.specs.Keys.{is_id}
 use Rattle.carrier_model.specs.Values.{Prop}
-use Rattle.carrier_model.specs.Tree.{Message, message, Attachments, Body, nothing, embedded, Attached, attachments_from, depth, depth_in, depth_of_body}
-use Rattle.carrier_model.specs.Trees.{IsPropList, HasPropLists, HavePropLists, BodyHasPropLists, IsTree}
+use Rattle.carrier_model.specs.Tree.{Message, Attachments, Body, nothing, embedded, Attached, attachments_from, depth, depth_in}
+use Rattle.carrier_model.specs.Trees.{IsPropList, HasPropLists, HavePropLists, IsTree}
 use Rattle.carrier_model.specs.LegacyAttributes.{MESSAGE_PROPS, RECIPIENTS, RENDERING, ATTACHMENT, is_message_id, is_attachment_id, legacy_prop}
 use Rattle.carrier_model.specs.TnefLists.{PropList, prop_list, recipient_lists}
-use Rattle.carrier_model.specs.TnefMessage.{Passed, Meaning, Gift, no_gift, message_list, recipients, attachment, Part, part, with_inner, inner_of, content, has_attr, is_there, place_tests, Stands, AllStand, Read, props_in, recipients_in, body_in, or_else, body_among, derived, has_key_of, joined, beside, attached_by, groups, message_by, meaning_by, StreamMeans, stream, object_with, behind_interface, too_deep, message_within, GREATEST_LEVEL, TnefCarrier}
+use Rattle.carrier_model.specs.TnefMessage.{Passed, Meaning, Gift, no_gift, message_list, recipients, attachment, Part, part, with_inner, inner_of, content, has_attr, is_there, place_tests, AllStand, Read, props_in, recipients_in, body_in, or_else, body_among, derived, has_key_of, joined, beside, attached_by, groups, message_by, StreamMeans, object_with, behind_interface, too_deep, message_within, GREATEST_LEVEL, TnefCarrier}
 use Rattle.carrier_model.proofs.Attributes.{passing}
 use Rattle.carrier_model.proofs.Numbers.{AllBytes-drop}
-use Rattle.carrier_model.proofs.CanonicalLists.{Each, IsListed}
-use Rattle.carrier_model.proofs.ReadValues.{Fit, fit_front, fit_back, all_of}
+use Rattle.carrier_model.proofs.CanonicalLists.{IsListed}
+use Rattle.carrier_model.proofs.ReadValues.{Fit, fit_front, all_of}
 use Rattle.carrier_model.proofs.ReadLists.{Good, good_none, good_with, list_from_good, ObjectFits, ListRead, list_reads, recipients_read}
 use Rattle.carrier_model.proofs.ReadAttributes.{AttrFit, attrs_fit, legacy_listed}
 
@@ -37,7 +37,7 @@ BodyFits n (embedded inner) = HasPropLists inner × (depth inner + 1 ≤ n)
 abbrev GiftFits : ℕ → Gift → Type 0
 GiftFits n no_gift = Unit {0}
 GiftFits n (message_list props) = Good props
-GiftFits n (recipients lists) = Each Good lists
+GiftFits n (recipients lists) = AllByRecursion Good lists
 GiftFits n (attachment props body) = Good props × BodyFits n body
 
 record PartRead (n : ℕ) (a : Attr) (p : Part) : Type 0 where
@@ -48,7 +48,7 @@ record PartRead (n : ℕ) (a : Attr) (p : Part) : Type 0 where
 abbrev ObjectsFit : Whole Meaning → ℕ → Type 0
 ObjectsFit objects n = (place : ℕ) (x : List ℕ) (m : Meaning) → Fit x → objects.means place x m → HasPropLists m.message × (depth m.message + 1 ≤ n)
 
-good_props : (lists : List PropList) → Each ListRead lists → Each Good (map (λ (l : PropList). l.props) lists)
+good_props : (lists : List PropList) → AllByRecursion ListRead lists → AllByRecursion Good (map (λ (l : PropList). l.props) lists)
 good_props [] h = tt
 good_props (l ∷ lists) h = (h.0.good, good_props lists h.1)
 
@@ -90,7 +90,7 @@ record ReadFits (n : ℕ) (r : Read) : Type 0 where
   attr : AttrFit r.0
   part : PartRead n r.0 r.1
 
-reads_fit : (objects : Whole Meaning) (n : ℕ) → ObjectsFit objects n → (before attrs : List Attr) (parts : List Part) → Each AttrFit attrs → AllStand objects before attrs parts → Each (ReadFits n) (zip attrs parts)
+reads_fit : (objects : Whole Meaning) (n : ℕ) → ObjectsFit objects n → (before attrs : List Attr) (parts : List Part) → AllByRecursion AttrFit attrs → AllStand objects before attrs parts → AllByRecursion (ReadFits n) (zip attrs parts)
 reads_fit objects n fits before [] parts h s = tt
 reads_fit objects n fits before (a ∷ attrs) [] h s = tt
 reads_fit objects n fits before (a ∷ attrs) (p ∷ parts) h s =
@@ -155,7 +155,7 @@ good_alone n p h = by p.gift h
     by (recipients lists) f = good_none
     by (attachment props body) f = f.0
 
-own_one : (objects : Whole Meaning) (n : ℕ) (before attrs : List Attr) (parts : List Part) → AllStand objects before attrs parts → Each (ReadFits n) (zip attrs parts) → OneList before (own_props (zip attrs parts))
+own_one : (objects : Whole Meaning) (n : ℕ) (before attrs : List Attr) (parts : List Part) → AllStand objects before attrs parts → AllByRecursion (ReadFits n) (zip attrs parts) → OneList before (own_props (zip attrs parts))
 own_one objects n before [] parts s h = record { none = λ e. refl; good = good_none }
 own_one objects n before (a ∷ attrs) [] s h = record { none = λ e. refl; good = good_none }
 own_one objects n before (a ∷ attrs) (p ∷ parts) s h =
@@ -215,23 +215,23 @@ listed_props reads = flat_map (λ (r : Read). props_in r.1.gift) reads
 
 record GroupFits (n : ℕ) (g : List Read) : Type 0 where
   good : Good (listed_props g)
-  each : Each (ReadFits n) g
+  each : AllByRecursion (ReadFits n) g
 
 record Grouped (n : ℕ) (before : List Attr) (l : List Read) : Type 0 where
   none : has_list before ≡ true → listed_props (take_while goes_on l) ≡ []
   good : Good (listed_props (take_while goes_on l))
-  groups : Each (GroupFits n) (groups l)
+  groups : AllByRecursion (GroupFits n) (groups l)
 
-each_take : {A : Type 0} (P : A → Type 0) (k : ℕ) (xs : List A) → Each P xs → Each P (take k xs)
+each_take : {A : Type 0} (P : A → Type 0) (k : ℕ) (xs : List A) → AllByRecursion P xs → AllByRecursion P (take k xs)
 each_take P zero xs h = tt
 each_take P (suc k) [] h = tt
 each_take P (suc k) (x ∷ xs) h = (h.0, each_take P k xs h.1)
 
-each_filter : {A : Type 0} (P : A → Type 0) (t : A → Bool) (xs : List A) → Each P xs → Each P (filter t xs)
+each_filter : {A : Type 0} (P : A → Type 0) (t : A → Bool) (xs : List A) → AllByRecursion P xs → AllByRecursion P (filter t xs)
 each_filter P t [] h = tt
 each_filter P t (x ∷ xs) h = by (t x) (each_filter P t xs h.1)
   where
-    by : (b : Bool) → Each P (filter t xs) → Each P (cond b (x ∷ filter t xs) (filter t xs))
+    by : (b : Bool) → AllByRecursion P (filter t xs) → AllByRecursion P (cond b (x ∷ filter t xs) (filter t xs))
     by true rest = (h.0, rest)
     by false rest = rest
 
@@ -258,7 +258,7 @@ not_own_list n e = by (n == MESSAGE_PROPS) refl
     by false f = f
 
 -- an attribute that begins an attachment
-begins : (n : ℕ) (before : List Attr) (r : Read) (l : List Read) → ReadFits n r → Each (ReadFits n) l → is_attachment_id r.0.id ≡ true → (r.0.id == RENDERING) ≡ true → Grouped n (before ++ r.0 ∷ []) l → Grouped n before (r ∷ l)
+begins : (n : ℕ) (before : List Attr) (r : Read) (l : List Read) → ReadFits n r → AllByRecursion (ReadFits n) l → is_attachment_id r.0.id ≡ true → (r.0.id == RENDERING) ≡ true → Grouped n (before ++ r.0 ∷ []) l → Grouped n before (r ∷ l)
 begins n before r l h each e f next =
     let ends : take_while goes_on (r ∷ l) ≡ [] = take_while-cons goes_on r l ∙ ap (λ b. cond (not b) (r ∷ take_while goes_on l) []) f in
     let is : r.0.id ≡ RENDERING = eqb-true r.0.id RENDERING f in
@@ -270,7 +270,7 @@ begins n before r l h each e f next =
     record {
       none = λ g. ap listed_props ends;
       good = subst (λ z. Good (listed_props z)) (sym ends) good_none;
-      groups = subst (λ b. Each (GroupFits n) (cond b ((r ∷ take_while goes_on l) ∷ groups l) (groups l))) (sym f) (first, next.groups);
+      groups = subst (λ b. AllByRecursion (GroupFits n) (cond b ((r ∷ take_while goes_on l) ∷ groups l) (groups l))) (sym f) (first, next.groups);
     }
 
 -- an attribute of the attachment that was begun last
@@ -281,7 +281,7 @@ continues n before r l h place e f next =
     record {
       none = λ g. ap listed_props goes ∙ rest.0 g;
       good = subst (λ z. Good (listed_props z)) (sym goes) rest.1;
-      groups = subst (λ b. Each (GroupFits n) (cond b ((r ∷ take_while goes_on l) ∷ groups l) (groups l))) (sym f) next.groups;
+      groups = subst (λ b. AllByRecursion (GroupFits n) (cond b ((r ∷ take_while goes_on l) ∷ groups l) (groups l))) (sym f) next.groups;
     }
   where
     by : (b : Bool) → (r.0.id == ATTACHMENT) ≡ b → (has_list before ≡ true → props_in r.1.gift ++ listed_props (take_while goes_on l) ≡ []) × Good (props_in r.1.gift ++ listed_props (take_while goes_on l))
@@ -300,7 +300,7 @@ continues n before r l h place e f next =
 beside_them : (n : ℕ) (before : List Attr) (a : Attr) (l : List Read) → is_attachment_id a.id ≡ false → Grouped n (before ++ a ∷ []) l → Grouped n before l
 beside_them n before a l e next = record { none = λ g. next.none (has_list-kept before a (not_begun a.id e) (not_listed a.id e) ∙ g); good = next.good; groups = next.groups }
 
-grouped : (objects : Whole Meaning) (n : ℕ) (before attrs : List Attr) (parts : List Part) → AllStand objects before attrs parts → Each (ReadFits n) (zip attrs parts) → Grouped n before (theirs (zip attrs parts))
+grouped : (objects : Whole Meaning) (n : ℕ) (before attrs : List Attr) (parts : List Part) → AllStand objects before attrs parts → AllByRecursion (ReadFits n) (zip attrs parts) → Grouped n before (theirs (zip attrs parts))
 grouped objects n before [] parts s h = record { none = λ e. refl; good = good_none; groups = tt }
 grouped objects n before (a ∷ attrs) [] s h = record { none = λ e. refl; good = good_none; groups = tt }
 grouped objects n before (a ∷ attrs) (p ∷ parts) s h =
@@ -314,22 +314,22 @@ grouped objects n before (a ∷ attrs) (p ∷ parts) s h =
 
 -- ---- what all of them give
 
-derived_listed : (n : ℕ) (reads : List Read) → Each (ReadFits n) reads → Each IsListed (derived reads)
+derived_listed : (n : ℕ) (reads : List Read) → AllByRecursion (ReadFits n) reads → AllByRecursion IsListed (derived reads)
 derived_listed n [] h = tt
 derived_listed n (r ∷ reads) h = by (legacy_prop r.0.id r.0.bytes) (legacy_listed r.0 h.0.attr) (derived_listed n reads h.1)
   where
-    by : (o : Option Prop) → Each IsListed (cons_option o []) → Each IsListed (derived reads) → Each IsListed (cons_option o (derived reads))
+    by : (o : Option Prop) → AllByRecursion IsListed (cons_option o []) → AllByRecursion IsListed (derived reads) → AllByRecursion IsListed (cons_option o (derived reads))
     by None f rest = rest
     by (Some p) f rest = (f.0, rest)
 
-joined_good : (props more : List Prop) → Good props → Each IsListed more → Good (joined props more)
+joined_good : (props more : List Prop) → Good props → AllByRecursion IsListed more → Good (joined props more)
 joined_good props more h g = good_with props (filter (λ p. not (has_key_of props p)) more) h (each_filter IsListed (λ p. not (has_key_of props p)) more g)
 
-beside_listed : (body : Body) (more : List Prop) → Each IsListed more → Each IsListed (beside body more)
+beside_listed : (body : Body) (more : List Prop) → AllByRecursion IsListed more → AllByRecursion IsListed (beside body more)
 beside_listed nothing more h = h
 beside_listed (embedded inner) more h = each_filter IsListed (λ p. not (is_id 0x3701 p.key)) more h
 
-body_fits : (n : ℕ) (reads : List Read) → Each (ReadFits n) reads → BodyFits n (body_among reads)
+body_fits : (n : ℕ) (reads : List Read) → AllByRecursion (ReadFits n) reads → BodyFits n (body_among reads)
 body_fits n [] h = tt
 body_fits n (r ∷ reads) h = by r.1.gift h.0.part.fits (body_fits n reads h.1)
   where
@@ -343,15 +343,15 @@ body_fits n (r ∷ reads) h = by r.1.gift h.0.part.fits (body_fits n reads h.1)
     by (recipients lists) f rest = rest
     by (attachment props body) f rest = either body (body_among reads) f.1 rest
 
-rows_good : (n : ℕ) (reads : List Read) → Each (ReadFits n) reads → Each IsPropList (flat_map (λ (r : Read). recipients_in r.1.gift) reads)
+rows_good : (n : ℕ) (reads : List Read) → AllByRecursion (ReadFits n) reads → AllByRecursion IsPropList (flat_map (λ (r : Read). recipients_in r.1.gift) reads)
 rows_good n [] h = tt
 rows_good n (r ∷ reads) h = by r.1.gift h.0.part.fits (rows_good n reads h.1)
   where
-    all_lists : (lists more : List (List Prop)) → Each Good lists → Each IsPropList more → Each IsPropList (lists ++ more)
+    all_lists : (lists more : List (List Prop)) → AllByRecursion Good lists → AllByRecursion IsPropList more → AllByRecursion IsPropList (lists ++ more)
     all_lists [] more f g = g
     all_lists (l ∷ lists) more f g = (list_from_good l f.0, all_lists lists more f.1 g)
 
-    by : (g : Gift) → GiftFits n g → Each IsPropList (flat_map (λ (r : Read). recipients_in r.1.gift) reads) → Each IsPropList (recipients_in g ++ flat_map (λ (r : Read). recipients_in r.1.gift) reads)
+    by : (g : Gift) → GiftFits n g → AllByRecursion IsPropList (flat_map (λ (r : Read). recipients_in r.1.gift) reads) → AllByRecursion IsPropList (recipients_in g ++ flat_map (λ (r : Read). recipients_in r.1.gift) reads)
     by no_gift f rest = rest
     by (message_list props) f rest = rest
     by (recipients lists) f rest = all_lists lists (flat_map (λ (r : Read). recipients_in r.1.gift) reads) f rest
@@ -365,7 +365,7 @@ pub one_more : (n : ℕ) (props : List Prop) (body : Body) (others : List Attach
 one_more n props nothing others h b rest = record { lists = (h, (tt, rest.lists)); levels = omega (arith, rest.levels) }
 one_more n props (embedded inner) others h b rest = record { lists = (h, (b.0, rest.lists)); levels = omega (arith, rest.levels, b.1) }
 
-attachments_fit : (n : ℕ) (gs : List (List Read)) → Each (GroupFits n) gs → AttachmentsFit n (attachments_from (map attached_by gs))
+attachments_fit : (n : ℕ) (gs : List (List Read)) → AllByRecursion (GroupFits n) gs → AttachmentsFit n (attachments_from (map attached_by gs))
 attachments_fit n [] h = record { lists = tt; levels = omega arith }
 attachments_fit n (g ∷ gs) h =
     let body = body_among g in

@@ -1,15 +1,16 @@
 -- What is read of a value has the form and the range of its kind.
-use Rattle.std.proofs.Common.{◌≡◌, ◌⊎◌, inl, inr, ℕ, zero, suc, ◌+◌, ◌-◌, ◌*◌, ◌<◌, ◌≤◌, ◌^◌, ◌%◌, Bool, true, false, cond, List, [], ◌∷◌, ◌++◌, length, take, drop, map, refl, sym, ap, subst, ◌∙◌, arith}
+use Rattle.std.proofs.Common.{◌≡◌, ℕ, zero, suc, ◌+◌, ◌-◌, ◌*◌, ◌<◌, ◌≤◌, ◌^◌, ◌%◌, Bool, true, false, cond, List, [], ◌∷◌, ◌++◌, length, take, drop, map, refl, sym, ap, subst, ◌∙◌, arith}
+use Rattle.std.specs.List.{AllByRecursion}
 use Rattle.std.specs.Prelude.{nat_le, nat_lt, ◌==◌, ◌||◌, ◌&&◌, All, IsTrue, not}
 use Rattle.std.proofs.lemmas.List.{length-append, length-take, take_at, drop_at, append-nil}
 use Rattle.std.proofs.lemmas.Bool.{leb-true, ltb-true, eqb-true, and_parts}
 use Rattle.carrier_model.specs.Bytes.{AllBytes}
-use Rattle.carrier_model.specs.Grammar.{Form, gives, InTurn, and_then, choice, repeat}
+use Rattle.carrier_model.specs.Grammar.{Form, gives, and_then, choice, repeat}
 use Rattle.carrier_model.specs.Values.{Value, number, guid, bytes, numbers, guids, parts, number_widths, numbers_widths, guid_widths, width_in, is_bytes_kind, IsBytes, IsValue, list_limit}
-use Rattle.carrier_model.specs.TnefLists.{le_number, pad4, raw, word, padded, null_of, without_null, is_size, size, sized, text, one, many, numbers_of, bits_of, is_number_kind, is_numbers_kind, value, is_kind}
+use Rattle.carrier_model.specs.TnefLists.{le_number, word, padded, without_null, is_size, size, sized, text, one, many, numbers_of, bits_of, is_number_kind, is_numbers_kind, value, is_kind}
 use Rattle.carrier_model.proofs.Numbers.{AllBytes-drop, AllBytes-take}
 use Rattle.carrier_model.proofs.CanonicalKinds.{among_rows, bytes_kinds}
-use Rattle.carrier_model.proofs.CanonicalLists.{Each, each_push}
+use Rattle.carrier_model.proofs.CanonicalLists.{each_push}
 
 -- bytes of an input that is not too long
 pub record Fit (s : List ℕ) : Type 0 where
@@ -151,19 +152,19 @@ abbrev pub Reads : {X : Type 0} → Form X → (X → Type 0) → Type 0
 Reads {X} f P = (at : ℕ) (x : X) (s : List ℕ) → Fit s → f.spells at x s → P x × (1 ≤ length s)
 
 pub record AllRead {X : Type 0} (P : X → Type 0) (before l : List X) (s : List ℕ) : Type 0 where
-  pub each : Each P l
+  pub each : AllByRecursion P l
   pub few : length l ≤ length before + length s
 
-pub repeat_reads : {X : Type 0} (item : List X → Form X) (P : X → Type 0) → ((before : List X) → Reads (item before) P) → (n : ℕ) (before : List X) (at : ℕ) (l : List X) (s : List ℕ) → Fit s → Each P before → (repeat n item before).spells at l s → AllRead P before l s
+pub repeat_reads : {X : Type 0} (item : List X → Form X) (P : X → Type 0) → ((before : List X) → Reads (item before) P) → (n : ℕ) (before : List X) (at : ℕ) (l : List X) (s : List ℕ) → Fit s → AllByRecursion P before → (repeat n item before).spells at l s → AllRead P before l s
 unfolding repeat
-repeat_reads item P each zero before at l s h b p = record { each = subst (λ z. Each P z) (sym p.0) b; few = omega (arith, ap length p.0) }
+repeat_reads item P each zero before at l s h b p = record { each = subst (λ z. AllByRecursion P z) (sym p.0) b; few = omega (arith, ap length p.0) }
 repeat_reads item P each (suc n) before at l s h b p =
     let first = each before at p.x p.front (fit_front s p.front p.back p.parts h) p.first in
     let rest = repeat_reads item P each n (before ++ p.x ∷ []) (at + length p.front) l p.back (fit_back s p.front p.back p.parts h) (each_push P before p.x b first.0) p.second in
     record { each = rest.each; few = omega (arith, rest.few, first.1, length-append before (p.x ∷ []), part_length s p.front p.back p.parts) }
 
 pub record ManyRead {X : Type 0} (P : X → Type 0) (l : List X) (s : List ℕ) : Type 0 where
-  pub each : Each P l
+  pub each : AllByRecursion P l
   pub few : length l < list_limit
   pub some : 1 ≤ length s
 
@@ -175,12 +176,12 @@ many_reads f P each at l s h p =
     let len = part_length s p.front p.back p.parts in
     record { each = r.each; few = omega (arith, r.few, w.len, len, h.short); some = omega (arith, w.len, len) }
 
-pub all_of : {A : Type 0} (P : A → Type 0) (xs : List A) → Each P xs → All P xs
+pub all_of : {A : Type 0} (P : A → Type 0) (xs : List A) → AllByRecursion P xs → All P xs
 all_of P [] h k d lt = absurd (omega (arith, lt))
 all_of P (x ∷ xs) h zero d lt = h.0
 all_of P (x ∷ xs) h (suc k) d lt = all_of P xs h.1 k d (omega arith)
 
-pub each_map : {A B : Type 0} (P : A → Type 0) (Q : B → Type 0) (f : A → B) → ((x : A) → P x → Q (f x)) → (xs : List A) → Each P xs → Each Q (map f xs)
+pub each_map : {A B : Type 0} (P : A → Type 0) (Q : B → Type 0) (f : A → B) → ((x : A) → P x → Q (f x)) → (xs : List A) → AllByRecursion P xs → AllByRecursion Q (map f xs)
 each_map P Q f step [] h = tt
 each_map P Q f step (x ∷ xs) h = (step x h.0, each_map P Q f step xs h.1)
 
@@ -265,7 +266,7 @@ numbers_read kind at v s h e p =
     let P : List ℕ → Type 0 = λ x. le_number x < 2 ^ (8 * w) in
     let each : Reads (padded w) P = λ place x t fit d. let r = padded_reads place w x t fit d in (width_below w (2 ^ (8 * w)) x (top_numbers kind some) r.len r.fit.bytes, omega (arith, some, r.within)) in
     let m = many_reads (padded w) P each at q.x q.front (fit_front p.front q.front q.back q.parts front) q.first in
-    let all : Each (λ (n : ℕ). n < 2 ^ (8 * w)) (map le_number q.x) = each_map P (λ (n : ℕ). n < 2 ^ (8 * w)) le_number (λ x lt. lt) q.x m.each in
+    let all : AllByRecursion (λ (n : ℕ). n < 2 ^ (8 * w)) (map le_number q.x) = each_map P (λ (n : ℕ). n < 2 ^ (8 * w)) le_number (λ x lt. lt) q.x m.each in
     let few : length (map le_number q.x) < list_limit = omega (arith, m.few, length-mapped le_number q.x) in
     let is : IsValue (numbers kind (map le_number q.x)) = (all_of (λ n. n < 2 ^ (8 * w)) (map le_number q.x) all, some, few) in
     record {

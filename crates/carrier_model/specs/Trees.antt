@@ -1,5 +1,5 @@
 -- What a message keeps to whose lists come from typed values. [MS-OXCDATA 2.6.1 and 2.11.1]
-use Rattle.std.specs.Prelude.{ℕ, ◌<◌, ◌≤◌, ◌^◌, List, All}
+use Rattle.std.specs.Prelude.{◌<◌, ◌≤◌, ◌^◌, List, All}
 use Rattle.carrier_model.specs.Keys.{Name, numbered, texted, Key, id, named}
 use Rattle.carrier_model.specs.Values.{Prop, prop_cmp, IsProp}
 use Rattle.carrier_model.specs.Sorted.{IsStrictlySorted}
