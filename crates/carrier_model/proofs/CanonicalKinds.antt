@@ -42,7 +42,7 @@ spells_all : {A X : Type 0} (f : Form X) (view : A → X) (write : A → List �
 spells_all f view write P each [] all = tt
 spells_all f view write P each (x ∷ xs) all = (λ at. each x (all 0 x (omega arith)) at, spells_all f view write P each xs (λ k d lt. all (suc k) d (omega arith)))
 
-map_again : (write : ℕ → List ℕ) (P : ℕ → Type 0) → ((n : ℕ) → P n → le_number (write n) ≡ n) → (xs : List ℕ) → All P xs → map le_number (map write xs) ≡ xs
+pub map_again : (write : ℕ → List ℕ) (P : ℕ → Type 0) → ((n : ℕ) → P n → le_number (write n) ≡ n) → (xs : List ℕ) → All P xs → map le_number (map write xs) ≡ xs
 map_again write P again [] all = refl
 map_again write P again (x ∷ xs) all = λ i. again x (all 0 x (omega arith)) i ∷ map_again write P again xs (λ k d lt. all (suc k) d (omega arith)) i
 
@@ -51,7 +51,7 @@ map_same [] = refl
 map_same (x ∷ xs) = ap (λ l. x ∷ l) (map_same xs)
 
 -- a number of a width is read as it is written
-abbrev IsAgain : ℕ → Type 0
+abbrev pub IsAgain : ℕ → Type 0
 IsAgain w = (n : ℕ) → n < 2 ^ (8 * w) → (le_number (le_bytes w n) ≡ n) × (length (le_bytes w n) ≡ w)
 
 again2 : IsAgain 2
@@ -63,7 +63,7 @@ again4 n lt = (le32_number n lt, refl)
 again8 : IsAgain 8
 again8 n lt = (le64_number n lt, refl)
 
-abbrev IsBitsAgain : ℕ → ℕ → Type 0
+abbrev pub IsBitsAgain : ℕ → ℕ → Type 0
 IsBitsAgain kind w = (n : ℕ) → n < 2 ^ (8 * w) → (kind ≡ 0x000B → n < 2) → (bits_of kind (le_bytes w n) ≡ n) × (length (le_bytes w n) ≡ w)
 
 boolean_again : IsBitsAgain 0x000B 2
@@ -71,14 +71,14 @@ boolean_again zero lt b = (refl, refl)
 boolean_again (suc zero) lt b = (refl, refl)
 boolean_again (suc (suc n)) lt b = absurd (let h : suc (suc n) < 2 = b refl in omega arith)
 
-number_again : (kind : ℕ) → 0 < width_in number_widths kind → IsBitsAgain kind (width_in number_widths kind)
+pub number_again : (kind : ℕ) → 0 < width_in number_widths kind → IsBitsAgain kind (width_in number_widths kind)
 number_again kind some = among_rows IsBitsAgain number_widths kind (λ n lt b. again2 n lt, (λ n lt b. again4 n lt, (λ n lt b. again4 n lt, (λ n lt b. again8 n lt, (λ n lt b. again8 n lt, (λ n lt b. again8 n lt, (λ n lt b. again4 n lt, (boolean_again, (λ n lt b. again8 n lt, (λ n lt b. again8 n lt, tt)))))))))) some
 
 -- a kind of several numbers is none of the kinds before it
-abbrev IsSeveral : ℕ → ℕ → Type 0
+abbrev pub IsSeveral : ℕ → ℕ → Type 0
 IsSeveral kind w = (is_number_kind kind ≡ false) × ((kind == 0x0048) ≡ false) × (is_bytes_kind kind ≡ false) × IsAgain w
 
-several : (kind : ℕ) → 0 < width_in numbers_widths kind → IsSeveral kind (width_in numbers_widths kind)
+pub several : (kind : ℕ) → 0 < width_in numbers_widths kind → IsSeveral kind (width_in numbers_widths kind)
 several kind some = among_rows IsSeveral numbers_widths kind
     ((refl, refl, refl, again2), ((refl, refl, refl, again4), ((refl, refl, refl, again4), ((refl, refl, refl, again8), ((refl, refl, refl, again8), ((refl, refl, refl, again8), ((refl, refl, refl, again8), ((refl, refl, refl, again8), tt)))))))) some
 

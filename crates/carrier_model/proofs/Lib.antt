@@ -51,6 +51,7 @@ pub mod SortedLists
 pub mod Stream
 pub mod TableLaws
 pub mod Tnef
+pub mod TnefJobs
 pub mod TnefLists
 pub mod TnefMessage
 pub mod Trees
@@ -58,5 +59,6 @@ pub mod TurnSteps
 pub mod Turns
 pub mod ViewLaws
 pub mod VisitLaws
+pub mod WrittenLists
 pub mod WrittenNames
-pub mod TnefJobs
+pub mod WrittenValues

@@ -23,7 +23,7 @@ keys_exactly = exactly key_total key_exact
 pub props_exactly : (p q : Prop) → (prop_cmp p q ≡ Equal) ↔ ((p.key ≡ q.key) × (kind_of p.value ≡ kind_of q.value))
 props_exactly p q = (
   λ h. let same = both_equal (key_cmp p.key q.key) (nat_cmp (kind_of p.value) (kind_of q.value)) h in (key_exact _ _ same.0, exact_unsigned _ _ same.1),
-  λ e. (λ i. ordering_then (key_cmp (e.0 i) q.key) (nat_cmp (e.1 i) (kind_of q.value))) ∙ equal_to_itself prop_total q
+  λ e. (λ i. ordering_then (key_cmp (e.0 i) q.key) (nat_cmp (e.1 i) (kind_of q.value))) ∙ equal_to_itself prop_total q,
 )
 
 -- an answer that is the order's is equal where the two are one

@@ -1,10 +1,22 @@
 -- What is written for names and property lists in a .msg file, wherever its streams lie. [MS-OXMSG 2.2.3, 2.4]
-use Rattle.std.specs.Prelude.{◌≡◌, ℕ, ◌≤◌, List, length, Contains}
-use Rattle.std.specs.List.{flat_map}
-use Rattle.carrier_model.specs.Keys.{Name, IsName}
+use Rattle.std.specs.Prelude.{◌≡◌, ℕ, ◌≤◌, Bool, true, List, [], ◌++◌, length, Contains, Some, is_some, Result, Ok}
+use Rattle.std.specs.List.{flat_map, AllByRecursion}
+use Rattle.carrier_model.specs.Keys.{Name, named, IsName}
 use Rattle.carrier_model.specs.Trees.{HasUnits}
+use Rattle.carrier_model.specs.Lookups.{Found}
+use Rattle.carrier_model.specs.Trail.{Fault}
+use Rattle.carrier_model.specs.Values.{Prop}
+use Rattle.carrier_model.specs.MsgProps.{Part, head_size, is_attachment, Section}
+use Rattle.carrier_model.specs.WrittenMsg.{PROPERTIES, entries_bytes, props_streams}
+use Rattle.carrier_model.specs.MsgValues.{Streams}
 use Rattle.carrier_model.specs.NameMap.{NameStreams}
 use Rattle.carrier_model.specs.WrittenNames.{sets_of, entries_from, text_stream}
+
+-- a stream of this name with these bytes is there
+pub record HasStream (streams : Streams) (one : List ℕ × List ℕ) : Type 0 where
+  pub f : Found
+  pub there : streams one.0 ≡ Some f
+  pub bytes : f.stream.bytes ≡ one.1
 
 -- so many names as fit, each of the form of a name
 pub record AreNames (names : List Name) : Type 0 where
@@ -17,3 +29,23 @@ pub record HasNameMap (s : NameStreams) (names : List Name) : Type 0 where
   pub guids : s.guids.bytes ≡ flat_map (λ set. set) (sets_of names)
   pub entries : s.entries.bytes ≡ entries_from (sets_of names) 0 0 names
   pub texts : s.texts.bytes ≡ text_stream names
+
+-- a storage has the list that is written for properties, with the entry of an embedded message or without
+pub record HasList (part : Part) (names : List Name) (streams : Streams) (props : List Prop) (inner : Bool) : Type 0 where
+  pub head : List ℕ
+  pub long : length head ≡ head_size part
+  pub list : HasStream streams (PROPERTIES, head ++ entries_bytes names props inner)
+  pub values : AllByRecursion (HasStream streams) (props_streams names props)
+  pub inside : inner ≡ true → is_attachment part ≡ true
+
+-- the names of these properties are among others
+abbrev pub NamesAmong : List Name → List Prop → Type 0
+NamesAmong names props = (p : Prop) (name : Name) → Contains props p → p.key ≡ named name → Contains names name
+
+-- the list is read: these properties, an embedded message or none, and nothing passed over
+pub record IsReadAs (r : Result Section Fault) (props : List Prop) (inner : Bool) : Type 0 where
+  pub section : Section
+  pub read : r ≡ Ok section
+  pub props_are : section.props ≡ props
+  pub embedded : is_some section.embedded ≡ inner
+  pub passed : section.passed ≡ []

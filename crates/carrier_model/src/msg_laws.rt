@@ -1,5 +1,5 @@
 //! Laws about .msg files.
-ghost use Rattle.std.specs.Prelude.{◌≡◌, ◌≤◌, ℕ, List, length, IsTrue, Ok, Err};
+ghost use Rattle.std.specs.Prelude.{◌≡◌, ◌≤◌, ℕ, Bool, List, length, IsTrue, Ok, Err};
 ghost use Rattle.carrier_model.specs.Bytes.{AllBytes};
 ghost use Rattle.carrier_model.specs.Files.{Files};
 ghost use Rattle.carrier_model.specs.MsgMessage.{files_meaning, file_meaning, FilesMean, MsgCarrier, MsgFault};
@@ -7,12 +7,13 @@ ghost use Rattle.carrier_model.specs.MsgProps.{Part, Section, MsgProps, props_of
 ghost use Rattle.carrier_model.specs.MsgValues.{Streams};
 ghost use Rattle.carrier_model.specs.NameMap.{NameStreams, Pair, NamePairs, pairs_of, pairs_from};
 ghost use Rattle.carrier_model.specs.Keys.{Name};
-ghost use Rattle.carrier_model.specs.ReadBack.{AreNames, HasNameMap};
+ghost use Rattle.carrier_model.specs.ReadBack.{AreNames, HasNameMap, HasList, NamesAmong, IsReadAs};
 ghost use Rattle.carrier_model.specs.Sectors.{is_size};
 ghost use Rattle.carrier_model.specs.TnefMessage.{Meaning, Passed};
+ghost use Rattle.carrier_model.specs.Values.{Prop};
 ghost use Rattle.carrier_model.specs.Trail.{IsExact};
 ghost use Rattle.carrier_model.specs.Tree.{Message};
-ghost use Rattle.carrier_model.specs.Trees.{IsTree};
+ghost use Rattle.carrier_model.specs.Trees.{IsTree, IsPropList};
 
 /// The names that are answered are the pairs of the file, and they are answered wherever it has them.
 pub fn names_are_exact()
@@ -55,4 +56,9 @@ pub fn written_names_are_read()
 /// it is made of bytes and no longer than the greatest input. z is the sector size.
 pub fn msg_carriers_are_trees()
     ensures { (z : ℕ) (b : List ℕ) (t : Message) (passed : List Passed) → IsTrue (is_size z) → AllBytes b → length b ≤ 268435456 → MsgCarrier z b t passed → IsTree t }
+{}
+
+/// A property list that is written to streams is read back, with the entry of an embedded message or without.
+pub fn written_lists_are_read()
+    ensures { (part : Part) (names : List Name) (place : ℕ) (streams : Streams) (props : List Prop) (inner : Bool) → length names ≤ 32000 → IsPropList props → NamesAmong names props → HasList part names streams props inner → IsReadAs (props_of part (pairs_from 0 names) place streams) props inner }
 {}
