@@ -1,1 +1,2 @@
 mod Flat
+pub mod Narrowing

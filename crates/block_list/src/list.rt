@@ -1,11 +1,15 @@
 //! The list.
 ghost use Rattle.std.specs.Prelude.{◌≡◌, ◌≤◌, ◌<◌, ◌++◌, [], ◌∷◌, length, insert, OnOk, OnErr, slice_get, Some};
+ghost use Rattle.std.specs.List.Sorted.{IsSearchInRange, IsBinarySearchResult};
+ghost use Rattle.std.specs.declared.cmp.Ordering.{Ordering as Order};
+ghost use Rattle.block_list.specs.Searches.{Compares};
 
 use crate::block::Block;
 use crate::edits::{add, add_first};
 use crate::starts::block_with;
 use carrier_io::NoMemory;
 use std::alloc::Global;
+use std::cmp::Ordering;
 use std::marker::Model;
 
 /// A list. An insertion moves the places of at most a block's items.
@@ -85,5 +89,26 @@ impl<T: Drop> BlockList<T> {
         ensures err { OnErr result (self.new ≡ self.old) }
     {
         self.insert(self.len(), item)
+    }
+
+    /// Where an item is that compares as equal, or where one would go in a list along which the comparison rises. It
+    /// looks at the last item first, since items often come in order.
+    pub fn binary_search_by<F: Fn(&T) -> Ordering>(&self, compare: F) -> Result<usize, usize>
+        requires { F.IsAlwaysCallable compare }
+        ensures bound { IsSearchInRange result (length self.now) }
+        ensures position { (ord : T → Order) → Compares F.Fn ord compare → IsBinarySearchResult ord self.now result }
+    {
+        let mut low = 0;
+        let mut high = self.len();
+        let mut middle = high.saturating_sub(1);
+        while low < high {
+            match compare(self.get(middle)) {
+                Ordering::Less => low = middle + 1,
+                Ordering::Equal => return Ok(middle),
+                Ordering::Greater => high = middle,
+            }
+            middle = low + (high - low) / 2;
+        }
+        Err(low)
     }
 }

@@ -11,5 +11,7 @@ fn items_in_order(rt: HostRuntime) -> Result<(), Fail> {
     assert_eq!(rt; *list.get(0), 10);
     assert_eq!(rt; *list.get(1), 20);
     assert_eq!(rt; *list.get(2), 30);
+    assert_eq!(rt; list.binary_search_by(|item| item.cmp(&20)), Ok(1));
+    assert_eq!(rt; list.binary_search_by(|item| item.cmp(&25)), Err(2));
     Ok(())
 }
