@@ -40,6 +40,9 @@ starts-at n (y ∷ ys) (suc b) d lt = starts-at (n + length y) ys b d (omega ari
 pub starts-bounded : {A : Type 0} (blocks : List (List A)) (most : ℕ) → length (flat blocks) < most → All (λ start. start < most) (starts_from 0 blocks)
 starts-bounded blocks most lt k d within = omega (arith, starts-at 0 blocks k d (omega (arith, starts-length 0 blocks)), before-le blocks k)
 
+pub has-block : {A : Type 0} (blocks : List (List A)) (starts : List ℕ) (b : ℕ) → starts ≡ starts_from 0 blocks → b < length starts → b < length blocks
+has-block blocks starts b e lt = omega (arith, ap length e, starts-length 0 blocks)
+
 -- an item of a block is the list's
 pub flat-read : {A : Type 0} (blocks : List (List A)) (b at k : ℕ) (block : List A) (x : A) → block ≡ get_or blocks b block → b < length blocks → k ≡ before blocks b + at → slice_get block at ≡ Some x → slice_get (flat blocks) k ≡ Some x
 flat-read [] b at k block x is lt e found = absurd (omega arith)

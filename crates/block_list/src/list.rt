@@ -6,7 +6,7 @@ ghost use Rattle.block_list.specs.Searches.{Compares};
 
 use crate::block::Block;
 use crate::edits::{add, add_first};
-use crate::starts::block_with;
+use crate::starts::{block_with, halfway, probe};
 use carrier_io::NoMemory;
 use std::alloc::Global;
 use std::cmp::Ordering;
@@ -91,8 +91,23 @@ impl<T: Drop> BlockList<T> {
         self.insert(self.len(), item)
     }
 
+    /// The item at a place, which is looked for in a block first.
+    fn get_near(&self, block: usize, k: usize) -> &T
+        requires { k < length self.now }
+        ensures { slice_get self.now k ≡ Some result.now }
+    {
+        if block < self.starts.len() && self.starts[block] <= k {
+            let place = k - self.starts[block];
+            if place < self.blocks[block].len() {
+                return self.blocks[block].get(place);
+            }
+        }
+        self.get(k)
+    }
+
     /// Where an item is that compares as equal, or where one would go in a list along which the comparison rises. It
-    /// looks at the last item first, since items often come in order.
+    /// looks at the last item first, since items often come in order, then at the first items of blocks, and then into
+    /// one block.
     pub fn binary_search_by<F: Fn(&T) -> Ordering>(&self, compare: F) -> Result<usize, usize>
         requires { F.IsAlwaysCallable compare }
         ensures bound { IsSearchInRange result (length self.now) }
@@ -101,13 +116,23 @@ impl<T: Drop> BlockList<T> {
         let mut low = 0;
         let mut high = self.len();
         let mut middle = high.saturating_sub(1);
+        let mut first = 0;
+        let mut end = 0;
+        let mut block = self.starts.len();
         while low < high {
-            match compare(self.get(middle)) {
-                Ordering::Less => low = middle + 1,
+            match compare(self.get_near(block, middle)) {
+                Ordering::Less => {
+                    low = middle + 1;
+                    first = block;
+                }
                 Ordering::Equal => return Ok(middle),
-                Ordering::Greater => high = middle,
+                Ordering::Greater => {
+                    high = middle;
+                    end = block;
+                }
             }
-            middle = low + (high - low) / 2;
+            block = halfway(first, end);
+            middle = probe(&self.starts, block, low, high);
         }
         Err(low)
     }

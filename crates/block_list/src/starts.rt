@@ -33,3 +33,22 @@ pub fn raise_from(starts: &mut Vec<usize>, from: usize)
         starts[k] += 1;
     }
 }
+
+/// A place to look at from `low` on and before `high`: the first of a block, if it is there, else the middle.
+pub fn probe(starts: &[usize], block: usize, low: usize, high: usize) -> usize
+    ensures from { low ≤ high → low ≤ result }
+    ensures under { low < high → result < high }
+{
+    if block < starts.len() && low <= starts[block] && starts[block] < high {
+        return starts[block];
+    }
+    halfway(low, high)
+}
+
+/// Halfway from a place to another behind it.
+pub fn halfway(low: usize, high: usize) -> usize
+    ensures from { low ≤ result }
+    ensures under { low < high → result < high }
+{
+    low + high.saturating_sub(low) / 2
+}
