@@ -434,7 +434,7 @@ grouped at names (attached props body others) =
     ap (λ n. map attached_by ((r ∷ take (1 + n) (a ∷ rest)) ∷ groups rest)) (next_begins (next + (11 + length y)) names others) in
     alone ∙ (λ i. one_attachment at next props body y i ∷ grouped (next + (11 + length y)) names others i)
 
-from_listed : (attachments : Attachments) → attachments_from (listed attachments) ≡ attachments
+pub from_listed : (attachments : Attachments) → attachments_from (listed attachments) ≡ attachments
 from_listed no_more = refl
 from_listed (attached props body others) = ap (λ l. attached props body l) (from_listed others)
 

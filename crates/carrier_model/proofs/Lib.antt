@@ -59,6 +59,11 @@ pub mod TurnSteps
 pub mod Turns
 pub mod ViewLaws
 pub mod VisitLaws
+pub mod WrittenChildren
+pub mod WrittenFileNames
 pub mod WrittenLists
+pub mod WrittenMessages
 pub mod WrittenNames
+pub mod WrittenTop
+pub mod WrittenTrees
 pub mod WrittenValues

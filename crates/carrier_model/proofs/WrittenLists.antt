@@ -104,12 +104,12 @@ not_passed kind h =
     differs : (n : ℕ) → is_kind n ≡ false → eqb kind n ≡ false
     differs n none = by n none (eqb kind n) refl
 
-abbrev IsKeyOf : List Name → Key → Type 0
+abbrev pub IsKeyOf : List Name → Key → Type 0
 IsKeyOf names (id n) = n < 0x8000
 IsKeyOf names (named name) = HasId names name
 
 -- what is known of a property: its value, and that its key has a number
-record Ready (names : List Name) (p : Prop) : Type 0 where
+pub record Ready (names : List Name) (p : Prop) : Type 0 where
   pub value : IsValue p.value
   pub number : number_of_key names p.key < 65536
   pub key : IsKeyOf names p.key
@@ -337,7 +337,7 @@ pieces_permute props true =
     subst (λ (l : List Prop). IsPermutation l props) (sym same) (parted comes_before_object props)
 
 -- each property of a list is ready, and its streams are there
-ready : (names : List Name) (p : Prop) → length names ≤ 32000 → IsProp p → ((name : Name) → p.key ≡ named name → Contains names name) → Ready names p
+pub ready : (names : List Name) (p : Prop) → length names ≤ 32000 → IsProp p → ((name : Name) → p.key ≡ named name → Contains names name) → Ready names p
 ready names p few h known = record { value = h.value; number = number_of p.key h.key known; key = key_of_list p.key h.key known }
   where
     number_of : (k : Key) → IsKey k → ((name : Name) → k ≡ named name → Contains names name) → number_of_key names k < 65536

@@ -108,7 +108,7 @@ module _ (streams : Streams) (tag single : ℕ) (sizes : List ℕ) (step : ℕ) 
 
 -- ---- values
 
-every_of : {A : Type 0} (P Q : A → Type 0) → ((x : A) → P x → Q x) → (xs : List A) → All P xs → AllByRecursion Q xs
+pub every_of : {A : Type 0} (P Q : A → Type 0) → ((x : A) → P x → Q x) → (xs : List A) → All P xs → AllByRecursion Q xs
 every_of P Q f [] all = tt
 every_of P Q f (x ∷ xs) all = (f x (all 0 x (omega arith)), every_of P Q f xs (λ k d lt. all (suc k) d (omega arith)))
 

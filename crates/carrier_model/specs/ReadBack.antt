@@ -2,6 +2,7 @@
 use Rattle.std.specs.Prelude.{◌≡◌, ℕ, ◌≤◌, Bool, true, List, [], ◌++◌, length, Contains, Some, is_some, Result, Ok}
 use Rattle.std.specs.List.{flat_map, AllByRecursion}
 use Rattle.carrier_model.specs.Keys.{Name, named, IsName}
+use Rattle.carrier_model.specs.Tree.{Message, message, Attachments, no_more, attached, Body, nothing, embedded, listed}
 use Rattle.carrier_model.specs.Trees.{HasUnits}
 use Rattle.carrier_model.specs.Lookups.{Found}
 use Rattle.carrier_model.specs.Trail.{Fault}
@@ -49,3 +50,16 @@ pub record IsReadAs (r : Result Section Fault) (props : List Prop) (inner : Bool
   pub props_are : section.props ≡ props
   pub embedded : is_some section.embedded ≡ inner
   pub passed : section.passed ≡ []
+
+-- each message has at most as many recipients and attachments as a .msg file has room for
+abbrev mutual
+  pub HasFewParts : Message → Type 0
+  HasFewParts (message props recipients attachments) = (length recipients ≤ 2048) × (length (listed attachments) ≤ 2048) × HaveFewParts attachments
+
+  pub HaveFewParts : Attachments → Type 0
+  HaveFewParts no_more = Unit {0}
+  HaveFewParts (attached props body others) = BodyHasFewParts body × HaveFewParts others
+
+  pub BodyHasFewParts : Body → Type 0
+  BodyHasFewParts nothing = Unit {0}
+  BodyHasFewParts (embedded inner) = HasFewParts inner

@@ -1,18 +1,21 @@
 //! Laws about .msg files.
-ghost use Rattle.std.specs.Prelude.{◌≡◌, ◌≤◌, ℕ, Bool, List, length, IsTrue, Ok, Err};
+ghost use Rattle.std.specs.Prelude.{◌≡◌, ◌≤◌, ℕ, Bool, List, [], length, IsTrue, Ok, Err};
 ghost use Rattle.carrier_model.specs.Bytes.{AllBytes};
+ghost use Rattle.carrier_model.specs.FileTrees.{sorted};
 ghost use Rattle.carrier_model.specs.Files.{Files};
+ghost use Rattle.carrier_model.specs.LayoutHolds.{bare, classless};
+ghost use Rattle.carrier_model.specs.WrittenMsg.{files_of};
 ghost use Rattle.carrier_model.specs.MsgMessage.{files_meaning, file_meaning, FilesMean, MsgCarrier, MsgFault};
 ghost use Rattle.carrier_model.specs.MsgProps.{Part, Section, MsgProps, props_of};
 ghost use Rattle.carrier_model.specs.MsgValues.{Streams};
 ghost use Rattle.carrier_model.specs.NameMap.{NameStreams, Pair, NamePairs, pairs_of, pairs_from};
 ghost use Rattle.carrier_model.specs.Keys.{Name};
-ghost use Rattle.carrier_model.specs.ReadBack.{AreNames, HasNameMap, HasList, NamesAmong, IsReadAs};
+ghost use Rattle.carrier_model.specs.ReadBack.{AreNames, HasNameMap, HasList, HasFewParts, NamesAmong, IsReadAs};
 ghost use Rattle.carrier_model.specs.Sectors.{is_size};
 ghost use Rattle.carrier_model.specs.TnefMessage.{Meaning, Passed};
 ghost use Rattle.carrier_model.specs.Values.{Prop};
 ghost use Rattle.carrier_model.specs.Trail.{IsExact};
-ghost use Rattle.carrier_model.specs.Tree.{Message};
+ghost use Rattle.carrier_model.specs.Tree.{Message, names_of};
 ghost use Rattle.carrier_model.specs.Trees.{IsTree, IsPropList};
 
 /// The names that are answered are the pairs of the file, and they are answered wherever it has them.
@@ -61,4 +64,10 @@ pub fn msg_carriers_are_trees()
 /// A property list that is written to streams is read back, with the entry of an embedded message or without.
 pub fn written_lists_are_read()
     ensures { (part : Part) (names : List Name) (place : ℕ) (streams : Streams) (props : List Prop) (inner : Bool) → length names ≤ 32000 → IsPropList props → NamesAmong names props → HasList part names streams props inner → IsReadAs (props_of part (pairs_from 0 names) place streams) props inner }
+{}
+
+/// The files that are written for a message, found in the order of their siblings, mean that message and nothing else,
+/// and have no fault.
+pub fn written_files_mean_the_message()
+    ensures { (t : Message) (root : Files) → IsTree t → length (names_of t) ≤ 32000 → HasFewParts t → bare root.children ≡ classless (sorted (files_of t)) → files_meaning root ≡ Ok (record { message = t; passed = [] }) }
 {}
