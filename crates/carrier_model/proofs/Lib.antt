@@ -61,6 +61,7 @@ pub mod ViewLaws
 pub mod VisitLaws
 pub mod WrittenChildren
 pub mod WrittenFileNames
+pub mod WrittenFits
 pub mod WrittenLists
 pub mod WrittenMessages
 pub mod WrittenNames

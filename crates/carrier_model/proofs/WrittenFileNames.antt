@@ -1,11 +1,11 @@
 -- The names of the storages and streams of a .msg file that is written: what they say, and that they differ.
-use Rattle.std.proofs.Common.{◌≡◌, ◌⊎◌, ℕ, zero, suc, ◌+◌, ◌-◌, ◌*◌, ◌/◌, ◌%◌, ◌<◌, ◌≤◌, ◌^◌, Bool, true, false, not, ◌&&◌, cond, eqb, List, [], ◌∷◌, ◌++◌, length, map, take, drop, get_or, Option, Some, None, refl, sym, ap, subst, ◌∙◌, append_assoc, inl, inr, arith}
-use Rattle.std.specs.Prelude.{codes, fold, nat_lt, nat_le, ◌==◌, Contains}
+use Rattle.std.proofs.Common.{◌≡◌, ℕ, zero, suc, ◌+◌, ◌-◌, ◌*◌, ◌/◌, ◌%◌, ◌<◌, ◌≤◌, ◌^◌, Bool, true, false, ◌&&◌, cond, List, [], ◌∷◌, ◌++◌, length, map, take, drop, get_or, Some, None, refl, sym, ap, subst, ◌∙◌, arith}
+use Rattle.std.specs.Prelude.{fold, nat_le, ◌==◌}
 use Rattle.std.specs.List.{AllByRecursion, IsDistinct, list_all}
 use Rattle.std.specs.Char.{to_ascii_lowercase}
 use Rattle.std.proofs.lemmas.Slice.Eq.{bytes_eq-Decides}
-use Rattle.std.proofs.lemmas.Bool.{cases_lt, cond-true, cond-false, lt-ltb, le-ltb, le-leb, lt-leb, and_from, and_parts}
-use Rattle.std.proofs.lemmas.List.{map-append, length-append, length-map, take_at, drop_at}
+use Rattle.std.proofs.lemmas.Bool.{cond-true, and_from, and_parts}
+use Rattle.std.proofs.lemmas.List.{map-append, length-map, take_at, drop_at}
 use Rattle.carrier_model.specs.Files.{folded}
 use Rattle.carrier_model.specs.Lookups.{same_name}
 use Rattle.carrier_model.specs.KeyTexts.{upper, hex_digit, hex_digits}
@@ -13,7 +13,7 @@ use Rattle.carrier_model.specs.MsgMessage.{is_hex, hex_number, number_in}
 use Rattle.carrier_model.specs.WrittenNames.{value_name}
 use Rattle.carrier_model.specs.Keys.{Name}
 use Rattle.carrier_model.specs.Values.{Value, number, guid, bytes, numbers, guids, parts, Prop, IsValue}
-use Rattle.carrier_model.specs.WrittenMsg.{element_name, numbered_name, element_streams, value_streams, props_streams, tag_of}
+use Rattle.carrier_model.specs.WrittenMsg.{element_name, element_streams, value_streams, props_streams, tag_of}
 
 pub every_append : {A : Type 0} (P : A → Type 0) (xs ys : List A) → AllByRecursion P xs → AllByRecursion P ys → AllByRecursion P (xs ++ ys)
 every_append P [] ys h g = g

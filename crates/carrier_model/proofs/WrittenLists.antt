@@ -1,6 +1,6 @@
 -- The property lists that are written to a .msg file are read back.
-use Rattle.std.proofs.Common.{◌≡◌, ◌⊎◌, ℕ, zero, suc, ◌+◌, ◌-◌, ◌*◌, ◌/◌, ◌%◌, ◌<◌, ◌≤◌, ◌^◌, Bool, true, false, not, ◌||◌, ◌&&◌, cond, eqb, List, [], ◌∷◌, ◌++◌, length, map, take, drop, replicate, Option, Some, None, Result, Ok, Err, refl, sym, ap, subst, ◌∙◌, append_assoc, inl, inr, arith}
-use Rattle.std.specs.Prelude.{All, Contains, ◌==◌, is_some, nat_lt, find, unwrap_or, filter, filter_map, IsPermutation}
+use Rattle.std.proofs.Common.{◌≡◌, ℕ, zero, suc, ◌+◌, ◌-◌, ◌*◌, ◌/◌, ◌%◌, ◌<◌, ◌≤◌, ◌^◌, Bool, true, false, not, ◌||◌, ◌&&◌, cond, eqb, List, [], ◌∷◌, ◌++◌, length, map, take, drop, replicate, Option, Some, None, Ok, refl, sym, ap, subst, ◌∙◌, arith}
+use Rattle.std.specs.Prelude.{Contains, ◌==◌, is_some, nat_lt, find, unwrap_or, filter, filter_map, IsPermutation}
 use Rattle.std.specs.Option.{option_map}
 use Rattle.std.specs.List.{flat_map, range_with_len, AllByRecursion, AllZip, position_from}
 use Rattle.std.specs.declared.cmp.Ordering.{Ordering}
@@ -10,9 +10,8 @@ use Rattle.std.proofs.lemmas.List.Elements.{filter_map-append}
 use Rattle.std.proofs.lemmas.List.Sorted.{IsPermutation-refl, IsPermutation-trans, IsPermutation-middle, IsPermutation-cons}
 use Rattle.std.proofs.lemmas.List.{length-append, map-append, take_at, drop_at, drop-drop}
 use Rattle.std.proofs.lemmas.Bool.{cond-true, cond-false, eq-eqb, ne_eqb, eqb-true, lt-ltb, le-ltb, and_right, and_from, or_from}
-use Rattle.carrier_model.specs.Trail.{Fault}
 use Rattle.carrier_model.specs.Bytes.{le32, number32}
-use Rattle.carrier_model.specs.Outcomes.{◌>>=◌, check, mapped}
+use Rattle.carrier_model.specs.Outcomes.{mapped}
 use Rattle.carrier_model.specs.Reasons.{UNKNOWN_TYPE, UNMAPPED_ID}
 use Rattle.carrier_model.specs.Sectors.{u32_of}
 use Rattle.carrier_model.specs.Streams.{Stream}
@@ -24,14 +23,13 @@ use Rattle.carrier_model.specs.TnefLists.{is_kind, OBJECT, ATTACHED_OBJECT}
 use Rattle.carrier_model.specs.TnefCanonical.{id_of, le_bytes, comes_before_object}
 use Rattle.carrier_model.specs.NameMap.{Pair, name_for, pairs_from}
 use Rattle.carrier_model.specs.MsgValues.{Streams, PropEntry, kind_in, id_in, value_of}
-use Rattle.carrier_model.specs.MsgProps.{Part, top, Section, option_list, props_of, MsgProps, head_size, is_attachment, prop_entry, prop_entries, Item, kept, passed, embedding, prop_in, passed_in, embedding_in, is_passed_kind, key_of, prop_of, item_of}
-use Rattle.carrier_model.specs.WrittenMsg.{number_of_key, tag_of, value_streams, value_field, FLAGS, OBJECT_TAG, entry_bytes, object_entry, entries_bytes, props_streams, PROPERTIES}
+use Rattle.carrier_model.specs.MsgProps.{Part, top, Section, option_list, props_of, MsgProps, head_size, is_attachment, prop_entry, prop_entries, Item, kept, embedding, prop_in, passed_in, embedding_in, is_passed_kind, key_of, prop_of, item_of}
+use Rattle.carrier_model.specs.WrittenMsg.{number_of_key, tag_of, value_streams, value_field, FLAGS, OBJECT_TAG, entry_bytes, object_entry, entries_bytes, props_streams}
 use Rattle.carrier_model.specs.ReadBack.{HasStream, HasList, NamesAmong, IsReadAs}
 use Rattle.carrier_model.proofs.Turns.{bind_from, check_from}
 use Rattle.carrier_model.proofs.Numbers.{number32-le32}
 use Rattle.carrier_model.proofs.Orders.{name_total, name_exact}
 use Rattle.carrier_model.proofs.Pairs.{equal_to_itself}
-use Rattle.carrier_model.proofs.SortedLists.{in_tail}
 use Rattle.carrier_model.proofs.CanonicalKinds.{IsListKind, list_kind, among_rows}
 use Rattle.carrier_model.proofs.WrittenValues.{value_read}
 use Rattle.carrier_model.proofs.MsgProps.{props_of-only}

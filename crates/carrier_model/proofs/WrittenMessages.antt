@@ -1,33 +1,29 @@
 -- The message that is written to a .msg file is read back.
-use Rattle.std.proofs.Common.{◌≡◌, ◌⊎◌, ℕ, zero, suc, ◌+◌, ◌<◌, ◌≤◌, ◌^◌, max, Bool, true, false, List, [], ◌∷◌, ◌++◌, length, map, replicate, Option, Some, None, Result, Ok, Err, refl, sym, ap, subst, ◌∙◌, append_assoc, arith}
-use Rattle.std.specs.Prelude.{Contains, filter_map, is_some, All}
-use Rattle.std.specs.List.{AllByRecursion, AllZip, IsDistinct, flat_map}
-use Rattle.std.proofs.lemmas.List.{append-nil, map-append}
-use Rattle.std.proofs.lemmas.List.Elements.{filter_map-append}
+use Rattle.std.proofs.Common.{◌≡◌, ℕ, zero, suc, ◌+◌, ◌≤◌, Bool, true, false, List, [], ◌∷◌, ◌++◌, length, map, replicate, Option, Some, None, Result, Ok, Err, refl, sym, ap, subst, ◌∙◌, arith}
+use Rattle.std.specs.Prelude.{Contains, filter_map, is_some}
+use Rattle.std.specs.List.{AllByRecursion, AllZip, flat_map}
+use Rattle.std.proofs.lemmas.List.{append-nil}
 use Rattle.carrier_model.specs.Trail.{Fault}
-use Rattle.carrier_model.specs.Outcomes.{◌>>=◌, check, mapped}
+use Rattle.carrier_model.specs.Outcomes.{mapped}
 use Rattle.carrier_model.specs.Reasons.{TOO_DEEP, MISSING_STORAGE, OLE_STORAGE}
 use Rattle.carrier_model.specs.Turns.{each, found}
-use Rattle.carrier_model.specs.FileTrees.{FileTree, sorted, and_files}
+use Rattle.carrier_model.specs.FileTrees.{FileTree, sorted}
 use Rattle.carrier_model.specs.LayoutHolds.{bare, classless}
 use Rattle.carrier_model.specs.Files.{Files}
-use Rattle.carrier_model.specs.Lookups.{same_name, stream_named, storage_named}
+use Rattle.carrier_model.specs.Lookups.{stream_named, storage_named}
 use Rattle.carrier_model.specs.Keys.{Name, Key, id, named}
 use Rattle.carrier_model.specs.Values.{Prop}
 use Rattle.carrier_model.specs.Trees.{IsPropList, HasPropLists, HavePropLists, BodyHasPropLists}
 use Rattle.carrier_model.specs.Tree.{Message, message, Attachments, no_more, attached, Body, nothing, embedded, Attached, attachments_from, listed, depth, depth_in, depth_of_body, names_in, names_in_props, names_below, names_in_body, name_in}
-use Rattle.carrier_model.specs.TnefMessage.{Meaning}
 use Rattle.carrier_model.specs.NameMap.{Pair, pairs_from}
-use Rattle.carrier_model.specs.MsgProps.{Part, top, embedded_message, recipient, attachment, head_size, is_attachment, Section, props_of}
-use Rattle.carrier_model.specs.MsgMessage.{RECIPIENT_NAME, ATTACHMENT_NAME, numbered, list_in, Carried, carried, meaning_of, Inner, embedded_in, body_in, attachment_in, message_with, message_in}
+use Rattle.carrier_model.specs.MsgProps.{Part, embedded_message, recipient, attachment, head_size, is_attachment, Section}
+use Rattle.carrier_model.specs.MsgMessage.{RECIPIENT_NAME, ATTACHMENT_NAME, numbered, list_in, Carried, meaning_of, Inner, embedded_in, body_in, attachment_in, message_with, message_in}
 use Rattle.carrier_model.specs.WrittenNames.{value_name}
-use Rattle.carrier_model.specs.WrittenMsg.{PROPERTIES, OBJECT_TAG, list_files, recipient_files, attachment_files, body_files, message_files, is_embedded, head_of}
-use Rattle.carrier_model.specs.ReadBack.{HasStream, HasList, NamesAmong, IsReadAs, HasFewParts, HaveFewParts, BodyHasFewParts}
+use Rattle.carrier_model.specs.WrittenMsg.{PROPERTIES, OBJECT_TAG, list_files, body_files, message_files, head_of}
+use Rattle.carrier_model.specs.ReadBack.{NamesAmong, IsReadAs, HasFewParts, HaveFewParts, BodyHasFewParts}
 use Rattle.carrier_model.proofs.Turns.{bind_from, check_from, each-only}
-use Rattle.carrier_model.proofs.SortedLists.{in_tail}
-use Rattle.carrier_model.proofs.WrittenLists.{Ready, list_read}
-use Rattle.carrier_model.proofs.WrittenFileNames.{AreApart, distinct_join, every_append}
-use Rattle.carrier_model.proofs.WrittenChildren.{Entry, file, folder, entries, entry_name, FoundAs, found_as, Apart, HasStorage, storage_found, numbered_entry, numbers, numbered_found, Counting}
+use Rattle.carrier_model.proofs.WrittenLists.{list_read}
+use Rattle.carrier_model.proofs.WrittenChildren.{Entry, folder, entries, FoundAs, found_as, Apart, storage_found, numbered_entry, numbers, numbered_found, Counting}
 use Rattle.carrier_model.proofs.CanonicalTnef.{from_listed}
 use Rattle.carrier_model.proofs.WrittenValues.{every_of}
 use Rattle.carrier_model.proofs.WrittenTrees
@@ -36,22 +32,22 @@ use Rattle.carrier_model.proofs.WrittenTrees.{in_left, in_right}
 -- ---- names
 
 -- the names of a list are among others
-abbrev In : List Name → List Name → Type 0
+abbrev pub In : List Name → List Name → Type 0
 In names own = (name : Name) → Contains own name → Contains names name
 
-in_front : (names one other : List Name) → In names (one ++ other) → In names one
+pub in_front : (names one other : List Name) → In names (one ++ other) → In names one
 in_front names one other h name c = h name (in_left one other name c)
 
-in_back : (names one other : List Name) → In names (one ++ other) → In names other
+pub in_back : (names one other : List Name) → In names (one ++ other) → In names other
 in_back names one other h name c = h name (in_right one other name c)
 
 pub own_known : (names : List Name) (props : List Prop) (rs : List (List Prop)) (all : Attachments) → In names (names_in (message props rs all)) → In names (names_in_props props)
 own_known names props rs all h = in_front names (names_in_props props) (flat_map names_in_props rs) (in_front names (names_in_props props ++ flat_map names_in_props rs) (names_below all) h)
 
-recipients_known : (names : List Name) (props : List Prop) (rs : List (List Prop)) (all : Attachments) → In names (names_in (message props rs all)) → In names (flat_map names_in_props rs)
+pub recipients_known : (names : List Name) (props : List Prop) (rs : List (List Prop)) (all : Attachments) → In names (names_in (message props rs all)) → In names (flat_map names_in_props rs)
 recipients_known names props rs all h = in_back names (names_in_props props) (flat_map names_in_props rs) (in_front names (names_in_props props ++ flat_map names_in_props rs) (names_below all) h)
 
-below_known : (names : List Name) (props : List Prop) (rs : List (List Prop)) (all : Attachments) → In names (names_in (message props rs all)) → In names (names_below all)
+pub below_known : (names : List Name) (props : List Prop) (rs : List (List Prop)) (all : Attachments) → In names (names_in (message props rs all)) → In names (names_below all)
 below_known names props rs all h = in_back names (names_in_props props ++ flat_map names_in_props rs) (names_below all) h
 
 key_named : (k : Key) (name : Name) → k ≡ named name → name_in k ≡ name ∷ []

@@ -1,6 +1,6 @@
 -- The name map that is written is read back.
-use Rattle.std.proofs.Common.{◌≡◌, ◌⊎◌, ℕ, zero, suc, ◌+◌, ◌-◌, ◌*◌, ◌/◌, ◌%◌, ◌<◌, ◌≤◌, ◌^◌, Bool, true, false, not, ◌||◌, ◌&&◌, cond, eqb, List, [], ◌∷◌, ◌++◌, length, map, take, drop, get_or, replicate, Option, Some, None, Result, Ok, Err, refl, sym, ap, subst, ◌∙◌, append_assoc, inl, inr, arith}
-use Rattle.std.specs.Prelude.{All, Contains, filter_map, ◌==◌, nat_le, bytes_eq, unwrap_or, filter, if◌then◌else◌}
+use Rattle.std.proofs.Common.{◌≡◌, ◌⊎◌, ℕ, zero, suc, ◌+◌, ◌-◌, ◌*◌, ◌/◌, ◌%◌, ◌<◌, ◌≤◌, ◌^◌, Bool, true, false, not, ◌||◌, cond, eqb, List, [], ◌∷◌, ◌++◌, length, map, take, drop, replicate, Some, Ok, refl, sym, ap, subst, ◌∙◌, append_assoc, inl, inr, arith}
+use Rattle.std.specs.Prelude.{All, Contains, filter_map, ◌==◌, bytes_eq, unwrap_or, filter}
 use Rattle.std.specs.List.{flat_map, position_from, range_with_len, AllByRecursion}
 use Rattle.std.specs.Ordering.{nat_cmp}
 use Rattle.std.specs.Cmp.Lexicographic.{slice_cmp}
@@ -9,9 +9,9 @@ use Rattle.std.specs.declared.cmp.Ordering.TheVariants.{Less, Equal, Greater}
 use Rattle.std.proofs.lemmas.Map.Lookups.{exact_bytes}
 use Rattle.std.proofs.lemmas.Slice.Eq.{bytes_eq-Decides}
 use Rattle.std.proofs.lemmas.List.{length-append, length-map, length-replicate, take_at, drop_at, drop-drop}
-use Rattle.std.proofs.lemmas.Bool.{cond-true, cond-false, eq-eqb, ne_eqb, le-leb, and_from, or_from}
+use Rattle.std.proofs.lemmas.Bool.{cond-true, cond-false, eq-eqb, ne_eqb, le-leb, or_from}
 use Rattle.carrier_model.specs.Sorted.{choose, with_element, with_elements}
-use Rattle.carrier_model.specs.Bytes.{le16, le32, number32}
+use Rattle.carrier_model.specs.Bytes.{le32, number32}
 use Rattle.carrier_model.specs.Chains.{member}
 use Rattle.carrier_model.specs.Sectors.{u32_of}
 use Rattle.carrier_model.specs.Keys.{Name, numbered, texted, IsName, set_of}
@@ -19,7 +19,7 @@ use Rattle.carrier_model.specs.Trees.{HasUnits}
 use Rattle.carrier_model.specs.TnefLists.{units_of, pad4}
 use Rattle.carrier_model.specs.Turns.{in_turn, AllGive}
 use Rattle.carrier_model.specs.Outcomes.{mapped}
-use Rattle.carrier_model.specs.WrittenNames.{PS_MAPI, PS_PUBLIC_STRINGS, is_fixed_set, sets_of, set_index, name_units, text_entry, text_of, text_stream, label_number, kind_bit, set_word, name_word, entries_from}
+use Rattle.carrier_model.specs.WrittenNames.{PS_MAPI, PS_PUBLIC_STRINGS, is_fixed_set, sets_of, set_index, name_units, text_entry, text_of, text_stream, label_number, kind_bit, name_word, entries_from}
 use Rattle.carrier_model.specs.NameMap as read
 use Rattle.carrier_model.specs.ReadBack.{AreNames, HasNameMap}
 use Rattle.carrier_model.specs.NameMap.{NameStreams, NameEntry, name_entry, name_entries, Given, given_by, Pair, pairs_of}
@@ -28,7 +28,7 @@ use Rattle.carrier_model.proofs.SortedElements.{every_from}
 use Rattle.carrier_model.proofs.Turns.{in_turn-only}
 use Rattle.carrier_model.proofs.Numbers.{number32-le32}
 use Rattle.carrier_model.proofs.CanonicalLists.{units_again, length-units}
-use Rattle.carrier_model.proofs.NameMap.{HasName, indexes, given_by-only}
+use Rattle.carrier_model.proofs.NameMap.{indexes, given_by-only}
 
 -- ---- the sets
 

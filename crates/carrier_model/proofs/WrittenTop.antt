@@ -1,35 +1,36 @@
 -- The files that are written for a message mean that message.
-use Rattle.std.proofs.Common.{◌≡◌, ◌⊎◌, ℕ, zero, suc, ◌+◌, ◌*◌, ◌<◌, ◌≤◌, ◌^◌, max, Bool, true, false, cond, List, [], ◌∷◌, ◌++◌, length, map, Option, Some, None, Result, Ok, Err, refl, sym, ap, subst, ◌∙◌, arith}
-use Rattle.std.specs.Prelude.{Contains, All, filter, filter_map, is_some}
+use Rattle.std.proofs.Common.{◌≡◌, ℕ, zero, suc, ◌+◌, ◌*◌, ◌<◌, ◌≤◌, ◌^◌, Bool, true, false, cond, List, [], ◌∷◌, ◌++◌, length, map, Ok, refl, sym, ap, subst, ◌∙◌, arith}
+use Rattle.std.specs.Prelude.{Contains, All, filter}
 use Rattle.std.specs.List.{AllByRecursion, IsDistinct, flat_map, range_with_len}
 use Rattle.std.specs.declared.cmp.Ordering.{Ordering}
 use Rattle.std.specs.declared.cmp.Ordering.TheVariants.{Less, Equal, Greater}
 use Rattle.carrier_model.specs.Sorted.{choose, with_element, with_elements}
-use Rattle.carrier_model.specs.Outcomes.{◌>>=◌}
-use Rattle.carrier_model.specs.FileTrees as trees
-use Rattle.carrier_model.specs.FileTrees.{FileTree, NO_CLASS, sorted, streams_from}
-use Rattle.carrier_model.specs.Files.{Files, Children, folded}
-use Rattle.carrier_model.specs.LayoutHolds.{bare, classless}
-use Rattle.carrier_model.specs.Lookups.{same_name, stream_named, storage_named}
+use Rattle.carrier_model.specs.FileTrees.{FileTree, NO_CLASS, sorted}
+use Rattle.carrier_model.specs.Files.{Files}
+use Rattle.carrier_model.specs.LayoutHolds.{bare, classless, HoldsLaidOut}
+use Rattle.carrier_model.specs.Lookups.{same_name, stream_named}
 use Rattle.carrier_model.specs.Keys.{Name, Key, id, named, name_cmp, IsName, IsKey}
 use Rattle.carrier_model.specs.Values.{Prop, IsProp}
 use Rattle.carrier_model.specs.Trees.{HasUnits, KeyHasUnits, IsPropList, HasPropLists, HavePropLists, BodyHasPropLists, IsTree}
 use Rattle.carrier_model.specs.Tree.{Message, message, Attachments, no_more, attached, Body, nothing, embedded, names_in, names_in_props, names_below, names_in_body, name_in, names_of}
-use Rattle.carrier_model.specs.TnefMessage.{Meaning, GREATEST_LEVEL}
-use Rattle.carrier_model.specs.NameMap.{NameStreams, pairs_of, pairs_from}
+use Rattle.carrier_model.specs.TnefMessage.{Passed, Meaning, GREATEST_LEVEL}
+use Rattle.carrier_model.specs.NameMap.{pairs_of, pairs_from}
 use Rattle.carrier_model.specs.MsgValues.{Streams}
 use Rattle.carrier_model.specs.MsgProps.{top}
-use Rattle.carrier_model.specs.MsgMessage.{NAME_MAP, streams_of, stream_or_empty, name_streams_in, name_streams, message_in, files_meaning}
+use Rattle.carrier_model.specs.MsgMessage.{NAME_MAP, streams_of, stream_or_empty, name_streams_in, name_streams, files_meaning, MsgCarrier, MsgFault}
 use Rattle.carrier_model.specs.WrittenNames.{value_name, name_map_files, hash_stream, hash_streams, has_bytes, sets_of, entries_from, text_stream}
-use Rattle.carrier_model.specs.WrittenMsg.{files_of, message_files}
+use Rattle.carrier_model.specs.WrittenMsg.{files_of}
 use Rattle.carrier_model.specs.ReadBack.{HasStream, AreNames, HasNameMap, HasFewParts}
 use Rattle.carrier_model.proofs.Orders.{name_exact}
+use Rattle.carrier_model.specs.Layout.{msg_of}
+use Rattle.carrier_model.specs.Trail.{Fault}
+use Rattle.carrier_model.proofs.MsgMessage.{files_meaning-sound, carriers_exact}
 use Rattle.carrier_model.proofs.Turns.{bind_from}
 use Rattle.carrier_model.proofs.SortedLists.{in_head, in_tail}
 use Rattle.carrier_model.proofs.SortedElements.{every_from, every_at}
 use Rattle.carrier_model.proofs.WrittenNames.{names_read}
 use Rattle.carrier_model.proofs.WrittenFileNames.{every_append, differ_by, tag_in, tag_of_value}
-use Rattle.carrier_model.proofs.WrittenChildren.{Entry, file, folder, entries, entry_name, FoundAs, found_as, Apart, HasStorage, stream_found, storage_found}
+use Rattle.carrier_model.proofs.WrittenChildren.{Entry, file, folder, entries, entry_name, FoundAs, found_as, Apart, stream_found, storage_found}
 use Rattle.carrier_model.proofs.WrittenTrees
 use Rattle.carrier_model.proofs.WrittenMessages as messages
 
@@ -98,7 +99,7 @@ kept_elements : (ps m : List Name) (y : Name) → Contains m y → Contains (wit
 kept_elements [] m y c = c
 kept_elements (p ∷ ps) m y c = kept_elements ps (with_element name_cmp m p) y (kept_element m p y c)
 
-all_elements : (ps m : List Name) (y : Name) → Contains ps y → Contains (with_elements name_cmp m ps) y
+pub all_elements : (ps m : List Name) (y : Name) → Contains ps y → Contains (with_elements name_cmp m ps) y
 all_elements [] m y (k, lt, e) = absurd (omega (arith, lt))
 all_elements (p ∷ ps) m y (zero, lt, e) = kept_elements ps (with_element name_cmp m p) y (subst (Contains (with_element name_cmp m p)) e (new_element m p))
 all_elements (p ∷ ps) m y (suc k, lt, e) = all_elements ps (with_element name_cmp m p) y (k, omega (arith, lt), e)
@@ -152,14 +153,14 @@ hash_apart names b (suc n) few = by (has_bytes (hash_stream names b)) (hash_apar
     by false rest = rest
 
 -- the streams of the name map
-abbrev map_streams : List Name → List (List ℕ × List ℕ)
+abbrev pub map_streams : List Name → List (List ℕ × List ℕ)
 map_streams names =
     (value_name 0x00020102, flat_map (λ set. set) (sets_of names))
     ∷ (value_name 0x00030102, entries_from (sets_of names) 0 0 names)
     ∷ (value_name 0x00040102, text_stream names)
     ∷ hash_streams names
 
-map_apart : (names : List Name) → Apart (name_map_files names)
+pub map_apart : (names : List Name) → Apart (name_map_files names)
 unfolding IsDistinct
 map_apart names =
     let hashes : List (List ℕ) = map (λ p. p.0) (kept_hashes names 0 31) in
@@ -206,3 +207,20 @@ written_read t root tree few parts e =
         let names : List Name = names_of (message props rs all) in
         WrittenTrees.top_apart names NO_CLASS (name_map_files names) props rs all
         (WrittenTrees.all_ready names props some fine.lists.0 (messages.among names props (messages.own_known names props rs all fine.known))) (fine.lists.0).sorted fine.parts.0 fine.parts.1
+
+-- ---- the file
+
+pub canonical_carries : (t : Message) → IsTree t → length (names_of t) ≤ 32000 → HasFewParts t → HoldsLaidOut 512 (files_of t) → MsgCarrier 512 (msg_of t) t []
+canonical_carries t tree few parts h = record {
+  root = h.found;
+  holds = h.holds;
+  means = files_meaning-sound h.found (record { message = t; passed = [] }) (written_read t h.found tree few parts h.same);
+}
+
+pub canonical_alone : (t other : Message) (passed : List Passed) → IsTree t → length (names_of t) ≤ 32000 → HasFewParts t → HoldsLaidOut 512 (files_of t) → length (msg_of t) ≤ 268435456 → MsgCarrier 512 (msg_of t) other passed → (other ≡ t) × (passed ≡ [])
+canonical_alone t other passed tree few parts h short m =
+    let same : record { message = other; passed = passed } ≡ record { message = t; passed = [] } = (carriers_exact 512 (msg_of t) refl short).one (record { message = t; passed = [] }) (record { message = other; passed = passed }) (canonical_carries t tree few parts h) m in
+    (ap (λ (x : Meaning). x.message) same, ap (λ (x : Meaning). x.passed) same)
+
+pub canonical_faultless : (t : Message) (g : Fault) → IsTree t → length (names_of t) ≤ 32000 → HasFewParts t → HoldsLaidOut 512 (files_of t) → length (msg_of t) ≤ 268435456 → MsgFault 512 (msg_of t) g → ⊥
+canonical_faultless t g tree few parts h short e = (carriers_exact 512 (msg_of t) refl short).apart (record { message = t; passed = [] }) g (canonical_carries t tree few parts h) e

@@ -1,13 +1,12 @@
 -- The children of the storages of a .msg file that is written: their names differ, and their lists are there.
-use Rattle.std.proofs.Common.{◌≡◌, ◌⊎◌, ℕ, zero, suc, ◌+◌, ◌-◌, ◌*◌, ◌<◌, ◌≤◌, ◌^◌, Bool, true, false, cond, List, [], ◌∷◌, ◌++◌, length, map, drop, replicate, Option, Some, None, refl, sym, ap, subst, ◌∙◌, append_assoc, inl, inr, arith}
-use Rattle.std.specs.Prelude.{codes, Contains, filter_map}
+use Rattle.std.proofs.Common.{◌≡◌, ℕ, zero, suc, ◌+◌, ◌<◌, ◌≤◌, ◌^◌, Bool, true, false, List, [], ◌∷◌, ◌++◌, length, map, drop, replicate, Some, refl, sym, ap, subst, ◌∙◌, arith}
+use Rattle.std.specs.Prelude.{Contains, filter_map}
 use Rattle.std.specs.Option.{option_map}
 use Rattle.std.specs.List.{AllByRecursion, IsDistinct, cons_option}
 use Rattle.std.specs.Ordering.{nat_cmp, ordering_then}
-use Rattle.std.specs.declared.cmp.Ordering.{Ordering}
-use Rattle.std.specs.declared.cmp.Ordering.TheVariants.{Less, Equal, Greater}
+use Rattle.std.specs.declared.cmp.Ordering.TheVariants.{Less, Equal}
 use Rattle.std.proofs.lemmas.Bool.{eq-eqb}
-use Rattle.std.proofs.lemmas.List.{append-nil, map-append, length-append}
+use Rattle.std.proofs.lemmas.List.{append-nil, map-append}
 use Rattle.std.proofs.lemmas.List.Elements.{filter_map-append}
 use Rattle.carrier_model.specs.FileTrees as trees
 use Rattle.carrier_model.specs.FileTrees.{FileTree, and_files, streams_from, NO_CLASS}
@@ -15,13 +14,13 @@ use Rattle.carrier_model.specs.Files.{Children, folded}
 use Rattle.carrier_model.specs.KeyTexts.{upper, hex_digits}
 use Rattle.carrier_model.specs.Lookups.{same_name, stream_named}
 use Rattle.carrier_model.specs.Keys.{Name, Key, id, named, key_cmp}
-use Rattle.carrier_model.specs.Values.{Value, Prop, kind_of, prop_cmp, IsProp}
+use Rattle.carrier_model.specs.Values.{Prop, kind_of, prop_cmp, IsProp}
 use Rattle.carrier_model.specs.Sorted.{IsStrictlySorted}
 use Rattle.carrier_model.specs.Trees.{IsPropList}
-use Rattle.carrier_model.specs.Tree.{Message, message, Attachments, no_more, attached, Body, nothing, embedded, listed}
-use Rattle.carrier_model.specs.NameMap.{Pair, name_for, pairs_from}
+use Rattle.carrier_model.specs.Tree.{message, Attachments, no_more, attached, Body, nothing, embedded, listed}
+use Rattle.carrier_model.specs.NameMap.{name_for, pairs_from}
 use Rattle.carrier_model.specs.MsgProps.{Part, head_size, is_attachment}
-use Rattle.carrier_model.specs.MsgMessage.{NAME_MAP, RECIPIENT_NAME, ATTACHMENT_NAME, hex_number, number_in}
+use Rattle.carrier_model.specs.MsgMessage.{NAME_MAP, RECIPIENT_NAME, ATTACHMENT_NAME, hex_number}
 use Rattle.carrier_model.specs.WrittenNames.{value_name}
 use Rattle.carrier_model.specs.WrittenMsg.{number_of_key, tag_of, OBJECT_TAG, PROPERTIES, props_streams, entries_bytes, list_files, recipient_files, attachment_files, body_files, message_files, is_embedded, numbered_name, head_of}
 use Rattle.carrier_model.specs.ReadBack.{HasStream, HasList, NamesAmong}
@@ -30,9 +29,9 @@ use Rattle.carrier_model.proofs.Pairs.{equal_to_itself}
 use Rattle.carrier_model.proofs.SortedLists.{head_less, tail_sorted, in_tail}
 use Rattle.carrier_model.proofs.SortedElements.{every_from, every_at}
 use Rattle.carrier_model.proofs.CanonicalKinds.{list_kind}
-use Rattle.carrier_model.proofs.WrittenLists.{IsKeyOf, HasId, Ready, ready}
-use Rattle.carrier_model.proofs.WrittenFileNames.{every_append, number_again, differ_by, mark, tag_in, tag_of_value, AreApart, distinct_join, Says, said_apart, HasTag, TagsApart, list_marked, list_apart, list_apart_from, eight_again, folded_behind}
-use Rattle.carrier_model.proofs.WrittenChildren.{Entry, file, folder, entries, entry_name, FoundAs, Apart, stream_found, numbered_entry, numbers, Counting}
+use Rattle.carrier_model.proofs.WrittenLists.{IsKeyOf, Ready, ready}
+use Rattle.carrier_model.proofs.WrittenFileNames.{every_append, number_again, differ_by, mark, AreApart, distinct_join, Says, said_apart, HasTag, TagsApart, list_marked, list_apart, list_apart_from, eight_again, folded_behind}
+use Rattle.carrier_model.proofs.WrittenChildren.{Entry, file, folder, entries, entry_name, FoundAs, Apart, stream_found, numbered_entry, Counting}
 
 -- ---- tags
 

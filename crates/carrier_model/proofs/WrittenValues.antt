@@ -1,21 +1,21 @@
 -- The values that are written to a .msg file are read back.
-use Rattle.std.proofs.Common.{◌≡◌, ◌⊎◌, ℕ, zero, suc, ◌+◌, ◌-◌, ◌*◌, ◌/◌, ◌%◌, ◌<◌, ◌≤◌, ◌^◌, Bool, true, false, not, ◌||◌, ◌&&◌, cond, List, [], ◌∷◌, ◌++◌, length, map, take, drop, replicate, Option, Some, None, Result, Ok, Err, refl, sym, ap, subst, ◌∙◌, append_assoc, inl, inr, arith}
+use Rattle.std.proofs.Common.{◌≡◌, ℕ, suc, ◌+◌, ◌-◌, ◌*◌, ◌/◌, ◌%◌, ◌<◌, ◌^◌, Bool, true, false, List, [], ◌∷◌, ◌++◌, length, map, take, drop, replicate, Some, Ok, refl, sym, ap, subst, ◌∙◌, arith}
 use Rattle.std.specs.Prelude.{All, ◌==◌, IsTrue, is_some}
 use Rattle.std.specs.List.{flat_map, range_with_len, AllByRecursion}
-use Rattle.std.proofs.lemmas.List.{length-append, length-replicate, take_at, drop_at, drop-drop}
+use Rattle.std.proofs.lemmas.List.{length-append, take_at, drop_at, drop-drop}
 use Rattle.std.proofs.lemmas.Bool.{cond-true, cond-false, eq-eqb, lt-ltb, or_left}
-use Rattle.carrier_model.specs.Trail.{Fault, Test, test, first_fault}
-use Rattle.carrier_model.specs.Reasons.{MISSING_STREAM, BAD_ELEMENT}
-use Rattle.carrier_model.specs.Outcomes.{◌>>=◌, check, mapped}
+use Rattle.carrier_model.specs.Trail.{Test, first_fault}
+use Rattle.carrier_model.specs.Reasons.{BAD_ELEMENT}
+use Rattle.carrier_model.specs.Outcomes.{mapped}
 use Rattle.carrier_model.specs.Turns.{unless, tested}
 use Rattle.std.proofs.Math.Nat.{mul-div_cancel_left}
 use Rattle.std.proofs.lemmas.Nat.{mod-mul-add}
 use Rattle.carrier_model.specs.Sectors.{u32_of}
-use Rattle.carrier_model.specs.Lookups.{Found, size_place, bytes_at, size_place_at}
+use Rattle.carrier_model.specs.Lookups.{Found, size_place, bytes_at}
 use Rattle.carrier_model.specs.Values.{Value, number, guid, bytes, numbers, guids, parts, IsValue, IsBytes, kind_of, number_widths, numbers_widths, width_in, is_bytes_kind}
 use Rattle.carrier_model.specs.TnefLists.{le_number, bits_of, null_of, without_null, is_number_kind, is_numbers_kind}
 use Rattle.carrier_model.specs.TnefCanonical.{le_bytes}
-use Rattle.carrier_model.specs.MsgValues.{Streams, PropEntry, kind_in, step_of, fits_kind, means_empty, pieces_of, Element, elements_of, form_test, presence_test, parts_of, streamed_value, stored_value, value_of}
+use Rattle.carrier_model.specs.MsgValues.{Streams, PropEntry, kind_in, step_of, fits_kind, pieces_of, Element, elements_of, form_test, presence_test, parts_of, streamed_value, stored_value, value_of}
 use Rattle.carrier_model.specs.WrittenNames.{value_name}
 use Rattle.carrier_model.specs.WrittenMsg.{with_null, length_words, element_name, element_streams, value_streams, value_field}
 use Rattle.carrier_model.specs.ReadBack.{HasStream}

@@ -1,9 +1,11 @@
 -- What is written for names and property lists in a .msg file, wherever its streams lie. [MS-OXMSG 2.2.3, 2.4]
-use Rattle.std.specs.Prelude.{◌≡◌, ℕ, ◌≤◌, Bool, true, List, [], ◌++◌, length, Contains, Some, is_some, Result, Ok}
+use Rattle.std.specs.Prelude.{◌≡◌, ℕ, ◌<◌, ◌≤◌, ◌^◌, Bool, true, List, [], ◌++◌, length, Contains, Some, is_some, Result, Ok}
 use Rattle.std.specs.List.{flat_map, AllByRecursion}
 use Rattle.carrier_model.specs.Keys.{Name, named, IsName}
 use Rattle.carrier_model.specs.Tree.{Message, message, Attachments, no_more, attached, Body, nothing, embedded, listed}
 use Rattle.carrier_model.specs.Trees.{HasUnits}
+use Rattle.carrier_model.specs.FileTrees as trees
+use Rattle.carrier_model.specs.FileTrees.{FileTree}
 use Rattle.carrier_model.specs.Lookups.{Found}
 use Rattle.carrier_model.specs.Trail.{Fault}
 use Rattle.carrier_model.specs.Values.{Prop}
@@ -63,3 +65,9 @@ abbrev mutual
   pub BodyHasFewParts : Body → Type 0
   BodyHasFewParts nothing = Unit {0}
   BodyHasFewParts (embedded inner) = HasFewParts inner
+
+-- no stream has more bytes than a .msg file may have
+abbrev pub StreamsFit : FileTree → Type 0
+StreamsFit trees.no_file = Unit {0}
+StreamsFit (trees.stream name bytes others) = (length bytes < 2 ^ 28) × StreamsFit others
+StreamsFit (trees.storage name class inside others) = StreamsFit inside × StreamsFit others

@@ -3,18 +3,19 @@ ghost use Rattle.std.specs.Prelude.{◌≡◌, ◌≤◌, ℕ, Bool, List, [], l
 ghost use Rattle.carrier_model.specs.Bytes.{AllBytes};
 ghost use Rattle.carrier_model.specs.FileTrees.{sorted};
 ghost use Rattle.carrier_model.specs.Files.{Files};
-ghost use Rattle.carrier_model.specs.LayoutHolds.{bare, classless};
+ghost use Rattle.carrier_model.specs.Layout.{msg_of};
+ghost use Rattle.carrier_model.specs.LayoutHolds.{bare, classless, MayBeWritten, HoldsLaidOut};
 ghost use Rattle.carrier_model.specs.WrittenMsg.{files_of};
 ghost use Rattle.carrier_model.specs.MsgMessage.{files_meaning, file_meaning, FilesMean, MsgCarrier, MsgFault};
 ghost use Rattle.carrier_model.specs.MsgProps.{Part, Section, MsgProps, props_of};
 ghost use Rattle.carrier_model.specs.MsgValues.{Streams};
 ghost use Rattle.carrier_model.specs.NameMap.{NameStreams, Pair, NamePairs, pairs_of, pairs_from};
 ghost use Rattle.carrier_model.specs.Keys.{Name};
-ghost use Rattle.carrier_model.specs.ReadBack.{AreNames, HasNameMap, HasList, HasFewParts, NamesAmong, IsReadAs};
+ghost use Rattle.carrier_model.specs.ReadBack.{AreNames, HasNameMap, HasList, HasFewParts, StreamsFit, NamesAmong, IsReadAs};
 ghost use Rattle.carrier_model.specs.Sectors.{is_size};
 ghost use Rattle.carrier_model.specs.TnefMessage.{Meaning, Passed};
 ghost use Rattle.carrier_model.specs.Values.{Prop};
-ghost use Rattle.carrier_model.specs.Trail.{IsExact};
+ghost use Rattle.carrier_model.specs.Trail.{Fault, IsExact};
 ghost use Rattle.carrier_model.specs.Tree.{Message, names_of};
 ghost use Rattle.carrier_model.specs.Trees.{IsTree, IsPropList};
 
@@ -70,4 +71,18 @@ pub fn written_lists_are_read()
 /// and have no fault.
 pub fn written_files_mean_the_message()
     ensures { (t : Message) (root : Files) → IsTree t → length (names_of t) ≤ 32000 → HasFewParts t → bare root.children ≡ classless (sorted (files_of t)) → files_meaning root ≡ Ok (record { message = t; passed = [] }) }
+{}
+
+/// The files of a message may be written to a compound file, whose streams have room for their bytes: their names are
+/// short and differ in each storage, and no storage is too deep.
+pub fn files_of_a_message_may_be_written()
+    ensures { (t : Message) → IsTree t → length (names_of t) ≤ 32000 → HasFewParts t → StreamsFit (files_of t) → MayBeWritten (files_of t) }
+{}
+
+/// Where a compound file holds the files that are laid out in it, the .msg file of a message carries that message, with
+/// nothing passed over. It carries no other, and has no fault.
+pub fn canonical_msg_carries_its_message()
+    ensures carries { (t : Message) → IsTree t → length (names_of t) ≤ 32000 → HasFewParts t → HoldsLaidOut 512 (files_of t) → MsgCarrier 512 (msg_of t) t [] }
+    ensures alone { (t other : Message) (passed : List Passed) → IsTree t → length (names_of t) ≤ 32000 → HasFewParts t → HoldsLaidOut 512 (files_of t) → length (msg_of t) ≤ 268435456 → MsgCarrier 512 (msg_of t) other passed → (other ≡ t) × (passed ≡ []) }
+    ensures faultless { (t : Message) (g : Fault) → IsTree t → length (names_of t) ≤ 32000 → HasFewParts t → HoldsLaidOut 512 (files_of t) → length (msg_of t) ≤ 268435456 → MsgFault 512 (msg_of t) g → ⊥ }
 {}
