@@ -143,7 +143,7 @@ each_member : (xs : List ℕ) → AllByRecursion (λ y. member y xs ≡ true) xs
 each_member [] = tt
 each_member (x ∷ xs) = (rw (eq-eqb x x refl) refl, member_grows x xs xs (each_member xs))
 
-in_range : (x a n : ℕ) → a ≤ x → x < a + n → member x (range_with_len a n) ≡ true
+pub in_range : (x a n : ℕ) → a ≤ x → x < a + n → member x (range_with_len a n) ≡ true
 in_range x a zero low high = absurd (omega (arith, low, high))
 in_range x a (suc n) low high =
     elim (cases_eq x a) [

@@ -94,7 +94,7 @@ abbrev pub chain_in : List Claim → ℕ → List ℕ
 chain_in [] id = []
 chain_in (c ∷ cs) id = if nat_eq c.id id then c.chain else chain_in cs id
 
--- What is linked, as a tree of storages and streams; before is what stands behind it.
+-- What is linked, as a tree of storages and streams; rest is what stands behind it.
 abbrev pub tree_of : Directory → (ℕ → Stream) → Links → Children → Children
 tree_of d streams leaf rest = rest
 tree_of d streams (node id l r c) rest =

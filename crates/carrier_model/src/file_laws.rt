@@ -3,7 +3,11 @@ ghost use Rattle.std.specs.Prelude.{◌≡◌, ◌≤◌, ℕ, List, length, Ok,
 ghost use Rattle.std.specs.List.{AllByRecursion, IsDistinct};
 ghost use Rattle.carrier_model.specs.Chains.{Run, longest, after, end_word, chain_of, FreshChain, member};
 ghost use Rattle.carrier_model.specs.Entries.{Entry};
+ghost use Rattle.carrier_model.specs.FileTrees.{FileTree, sorted};
 ghost use Rattle.carrier_model.specs.Files.{Files, open_of};
+ghost use Rattle.carrier_model.specs.Layout.{layout};
+ghost use Rattle.carrier_model.specs.LayoutHolds.{LayoutsAreFound, MayBeWritten, bare, classless};
+ghost use Rattle.carrier_model.specs.Targets.{MOST_BYTES};
 ghost use Rattle.carrier_model.specs.Holds.{Holds, IsLoaded, IsStream};
 ghost use Rattle.carrier_model.specs.Loads.{Loaded, load_of, taken_by, claim_of, long_part, short_part};
 ghost use Rattle.carrier_model.specs.Sectors.{is_size};
@@ -33,20 +37,27 @@ pub fn links_are_exact()
 /// are such tables.
 pub fn loads_are_exact()
     ensures sound { (z : ℕ) (b : List ℕ) (s : Loaded) → load_of z b ≡ Ok s → IsLoaded z b s × IsDistinct nat_eq (taken_by s) }
-    ensures only { (z : ℕ) (b : List ℕ) (s : Loaded) → IsTrue (is_size z) → length b ≤ 268435456 → IsLoaded z b s → IsDistinct nat_eq (taken_by s) → load_of z b ≡ Ok s }
+    ensures only { (z : ℕ) (b : List ℕ) (s : Loaded) → IsTrue (is_size z) → length b ≤ MOST_BYTES → IsLoaded z b s → IsDistinct nat_eq (taken_by s) → load_of z b ≡ Ok s }
 {}
 
 /// What is claimed is the chain of a stream, clear of the earlier chains, and it is claimed wherever there is one.
 pub fn claims_are_exact()
     ensures sound { (z : ℕ) (b : List ℕ) (s : Loaded) (e : Entry) (o : ℕ) (long short c : List ℕ) → claim_of z b s e o long short ≡ Ok c → IsStream z b s e c × AllByRecursion (λ n. member n long ≡ false) (long_part e c) × AllByRecursion (λ n. member n short ≡ false) (short_part e c) }
-    ensures only { (z : ℕ) (b : List ℕ) (s : Loaded) (e : Entry) (o : ℕ) (long short c : List ℕ) → IsTrue (is_size z) → length b ≤ 268435456 → IsLoaded z b s → IsStream z b s e c → AllByRecursion (λ n. member n long ≡ false) (long_part e c) → AllByRecursion (λ n. member n short ≡ false) (short_part e c) → claim_of z b s e o long short ≡ Ok c }
+    ensures only { (z : ℕ) (b : List ℕ) (s : Loaded) (e : Entry) (o : ℕ) (long short c : List ℕ) → IsTrue (is_size z) → length b ≤ MOST_BYTES → IsLoaded z b s → IsStream z b s e c → AllByRecursion (λ n. member n long ≡ false) (long_part e c) → AllByRecursion (λ n. member n short ≡ false) (short_part e c) → claim_of z b s e o long short ≡ Ok c }
 {}
 
 /// What is answered of a file are the files that it holds, and they are answered wherever it holds any. So it holds no
 /// others, and none where there is a fault.
 pub fn files_are_exact()
     ensures sound { (z : ℕ) (b : List ℕ) (f : Files) → open_of z b ≡ Ok f → Holds z b f }
-    ensures only { (z : ℕ) (b : List ℕ) (f : Files) → IsTrue (is_size z) → length b ≤ 268435456 → Holds z b f → open_of z b ≡ Ok f }
-    ensures one { (z : ℕ) (b : List ℕ) (f g : Files) → IsTrue (is_size z) → length b ≤ 268435456 → Holds z b f → Holds z b g → f ≡ g }
-    ensures none { (z : ℕ) (b : List ℕ) (f : Files) (g : Fault) → IsTrue (is_size z) → length b ≤ 268435456 → open_of z b ≡ Err g → Holds z b f → ⊥ }
+    ensures only { (z : ℕ) (b : List ℕ) (f : Files) → IsTrue (is_size z) → length b ≤ MOST_BYTES → Holds z b f → open_of z b ≡ Ok f }
+    ensures one { (z : ℕ) (b : List ℕ) (f g : Files) → IsTrue (is_size z) → length b ≤ MOST_BYTES → Holds z b f → Holds z b g → f ≡ g }
+    ensures none { (z : ℕ) (b : List ℕ) (f : Files) (g : Fault) → IsTrue (is_size z) → length b ≤ MOST_BYTES → open_of z b ≡ Err g → Holds z b f → ⊥ }
+{}
+
+/// The file that a tree of storages and streams is written as holds that tree, and opening it answers so. Siblings stand
+/// in the order in which they are written.
+pub fn layouts_are_found()
+    ensures found { LayoutsAreFound 512 }
+    ensures opened { (files : FileTree) → MayBeWritten files → length (layout 512 files) ≤ MOST_BYTES → (f : Files) × (open_of 512 (layout 512 files) ≡ Ok f) × (bare f.children ≡ classless (sorted files)) }
 {}

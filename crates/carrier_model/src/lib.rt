@@ -14,8 +14,8 @@ mod text_rows;
 mod tnef_laws;
 
 pub use file_laws::{
-    chains_are_exact, claims_are_exact, files_are_exact, links_are_exact, loads_are_exact,
-    the_list_is_longest,
+    chains_are_exact, claims_are_exact, files_are_exact, layouts_are_found, links_are_exact,
+    loads_are_exact, the_list_is_longest,
 };
 pub use file_rows::{faults_of_changed_chains, faults_of_changed_entries, the_smallest_file_opens};
 pub use job_laws::jobs_are_exact;
