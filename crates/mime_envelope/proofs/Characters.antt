@@ -1,5 +1,5 @@
 -- A loop over a body's bytes.
-use Rattle.std.proofs.Common.{◌≡◌, ℕ, ◌+◌, ◌<◌, ◌≤◌, get_or, true, false, List, [], ◌∷◌, length, drop, Option, Some, None, refl, ap, ◌∙◌, arith}
+use Rattle.std.proofs.Common.{◌≡◌, ℕ, ◌+◌, ◌<◌, ◌≤◌, get_or, true, false, ◌||◌, List, [], ◌∷◌, length, drop, Option, Some, None, refl, ap, ◌∙◌, arith}
 use Rattle.std.proofs.lemmas.List.{drop_more, drop_all}
 use Rattle.carrier_model.specs.Reasons.{BAD_BASE64}
 use Rattle.carrier_model.specs.Trail.{Fault}
@@ -12,6 +12,16 @@ skips at c rest e = rw e refl
 passes : (at c : ℕ) (rest : List ℕ) → is_skipped c ≡ false → is_character c ≡ true → bad_character at (c ∷ rest) ≡ bad_character (at + 1) rest
 unfolding bad_character
 passes at c rest e f = rw (e, f) refl
+
+-- a byte that is either
+pub either : (at c : ℕ) (rest : List ℕ) → (is_skipped c || is_character c) ≡ true → bad_character at (c ∷ rest) ≡ bad_character (at + 1) rest
+unfolding bad_character
+either at c rest e = rw e refl
+
+pub bad_either : (at i : ℕ) (body : List ℕ) (x : Option Fault) → i < length body → x ≡ bad_character (at + i) (drop i body) → (is_skipped (get_or body i 0) || is_character (get_or body i 0)) ≡ true → x ≡ bad_character (at + (i + 1)) (drop (i + 1) body)
+bad_either at i body x lt inv e =
+    let next : at + i + 1 ≡ at + (i + 1) = omega arith in
+    inv ∙ ap (bad_character (at + i)) (drop_more body i 0 lt) ∙ either (at + i) (get_or body i 0) (drop (i + 1) body) e ∙ ap (λ (n : ℕ). bad_character n (drop (i + 1) body)) next
 
 stops : (at c : ℕ) (rest : List ℕ) → is_skipped c ≡ false → is_character c ≡ false → bad_character at (c ∷ rest) ≡ Some (BAD_BASE64, at)
 unfolding bad_character

@@ -15,7 +15,7 @@ mod writing;
 
 pub use laws::envelopes_are_exact;
 pub use reading::payload;
-pub use writing::{envelope_size, write_envelope};
+pub use writing::{Wrapped, envelope_size, write_envelope};
 
 #[cfg(test)]
 mod tests;

@@ -1,5 +1,5 @@
 //! Reading an envelope.
-ghost use Rattle.std.specs.Prelude.{◌≡◌, ℕ, ◌+◌, ◌<◌, ◌^◌, List, length, not, filter, IfOk};
+ghost use Rattle.std.specs.Prelude.{◌≡◌, ℕ, ◌+◌, ◌<◌, ◌^◌, List, length, not, filter, IfOk, IsTrue, None};
 ghost use Rattle.carrier_io.specs.Reads.{Gives, Reads};
 ghost use Rattle.carrier_io.specs.Reasons.{refusal};
 ghost use Rattle.carrier_model.specs.Envelope as envelope;
@@ -81,11 +81,25 @@ fn is_character(byte: u8) -> bool
     matches!(byte, b'A'..=b'Z' | b'a'..=b'z' | b'0'..=b'9' | b'+' | b'/' | b'=')
 }
 
+/// Whether all bytes of a body are base64 characters or skipped. It looks at each, so that many are looked at together.
+fn is_text(body: &[u8]) -> bool
+    ensures { IsTrue result → (at : ℕ) → envelope.bad_character at body.now ≡ None }
+{
+    let mut good = true;
+    for byte in body {
+        good &= is_skipped(*byte) | is_character(*byte);
+    }
+    good
+}
+
 /// Whether all bytes of a body at an offset are base64 characters or skipped.
 fn test_characters(at: u64, body: &[u8]) -> Result<(), Fault>
     requires { at + length body.now < 2 ^ 64 }
     ensures { envelope.bad_character at body.now ≡ refusal result }
 {
+    if is_text(body) {
+        return Ok(());
+    }
     for (i, byte) in body.iter().enumerate() {
         if !is_skipped(*byte) && !is_character(*byte) {
             return Err(Fault {
@@ -101,7 +115,7 @@ fn test_characters(at: u64, body: &[u8]) -> Result<(), Fault>
 fn characters(alloc: Global, body: &[u8]) -> Result<Vec<u8>, NoMemory>
     ensures { IfOk result (λ v. v.items ≡ envelope.characters body.now) }
 {
-    let mut text = Vec::new(alloc);
+    let mut text = Vec::with_capacity(alloc, body.len())?;
     for byte in body {
         if !is_skipped(*byte) {
             text.push(*byte)?;

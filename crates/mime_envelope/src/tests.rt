@@ -1,7 +1,7 @@
 ghost use Rattle.std.specs.Prelude.{◌<◌};
 
 use crate::*;
-use carrier_io::{Fault, MemorySink, Reason, Stop};
+use carrier_io::{Fault, MemorySink, Reason, Stop, write_gathered};
 use std::test::*;
 
 const TNEF: [u8; 6] = [0x78, 0x9f, 0x3e, 0x22, 0x01, 0x00];
@@ -14,6 +14,9 @@ fn wraps(rt: HostRuntime) -> Result<(), Fail> {
     let mut sink = MemorySink::new(rt.alloc(), 1000, Vec::new(rt.alloc()))?;
     write_envelope(&TNEF, &mut sink)?;
     assert_eq!(rt; sink.bytes(), WRAPPED.as_slice());
+    let mut gathered = MemorySink::new(rt.alloc(), 1000, Vec::new(rt.alloc()))?;
+    write_gathered(&Wrapped { bytes: &TNEF }, &mut gathered)?;
+    assert_eq!(rt; gathered.bytes(), WRAPPED.as_slice());
     assert_eq!(rt; envelope_size(6), 178);
     assert_eq!(rt; envelope_size(127), 346);
     envelopes_are_exact();

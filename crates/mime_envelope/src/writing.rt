@@ -5,13 +5,27 @@ ghost use Rattle.carrier_model.specs.Base64.{base64_text};
 ghost use Rattle.carrier_model.specs.EnvelopeText.{line_end, body_lines, envelope_of};
 
 use crate::coder::Coder;
-use carrier_io::{Failed, Sink, write_pieces};
+use carrier_io::{Failed, Sink, Writing, write_pieces};
 
 const HEAD_SIZE: u64 = 168;
 
 const LINE_BYTES: usize = 57;
 
 const LINE_CHARACTERS: u64 = 76;
+
+/// Bytes whose canonical envelope is to be written.
+#[derive(Clone, Copy, Debug)]
+pub struct Wrapped<'a> {
+    pub bytes: &'a [u8],
+}
+
+impl<'a> Writing for Wrapped<'a> {
+    ghost text = { λ w. envelope_of w.bytes.now };
+
+    fn write_to<W: Sink>(&self, sink: &mut W) -> Result<(), Failed> {
+        write_envelope(self.bytes, sink)
+    }
+}
 
 /// The length in bytes of the canonical envelope of so many bytes.
 pub fn envelope_size(len: u64) -> u64
