@@ -1,3 +1,5 @@
 pub mod FamilyLaws
+pub mod KidLaws
 pub mod NameLaws
+pub mod TreeLaws
 pub mod WalkLaws

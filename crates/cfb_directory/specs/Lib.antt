@@ -1,3 +1,4 @@
 pub mod Families
 pub mod Named
+pub mod Trees
 pub mod Walks
