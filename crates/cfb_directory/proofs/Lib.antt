@@ -1,3 +1,4 @@
+pub mod ClaimSteps
 pub mod FamilyLaws
 pub mod KidLaws
 pub mod NameLaws

@@ -1,4 +1,5 @@
 pub mod Families
 pub mod Named
+pub mod Nodes
 pub mod Trees
 pub mod Walks

@@ -4,6 +4,7 @@
 mod families;
 mod links;
 mod names;
+mod nodes;
 mod walk;
 
 pub use links::{Child, Link, Walked};

@@ -1,0 +1,60 @@
+use Rattle.std.proofs.Common.{◌≡◌, ◌+◌, ◌<◌, ◌≤◌, ℕ, List, [], ◌∷◌, ◌++◌, length, filter, true, false, sym, ◌∙◌, ap, arith, refl, rules, subst, Ok, Result}
+use Rattle.std.proofs.lemmas.Result.{err_from_is_err_and}
+use Rattle.cfb_sectors.specs.States.{entries}
+use Rattle.cfb_sectors.specs.Views.{entry as entry_seen}
+use Rattle.cfb_directory.specs.Nodes.{is_wanted}
+use Rattle.cfb_directory.specs.Walks.{directory_of}
+use Rattle.cfb_directory.specs.declared.nodes.Node.{Node}
+use Rattle.cfb_directory.proofs.ClaimSteps.{same-again, wanted_is, progress_init, progress_done, skip_step, claim_step, stop_step, within}
+use Rattle.cfb_directory.proofs.nodes.claim_streams.Goals as goal
+use Rattle.cfb_directory.proofs.nodes.claim_streams.Goals.{then-is_visited_stream+in_ok-stream+in_ok-push, else-is_visited_stream+in_ok-push-2}
+
+pub loop-id-init : goal.loop-id-init
+loop-id-init c = record {
+  same = refl;
+  count = c.new-nodes.ensures.len;
+  bounded = omega arith;
+  so_far = λ long short h k. rw c.new-nodes.ensures.items (progress_init c.args.sectors.now (is_wanted c.args.visited.now (directory_of c.args.sectors.now)) c.args.walk.now long short h k);
+}
+
+pub returns-in_err-stream-clause-answer : goal.returns-in_err-stream-clause-answer
+returns-in_err-stream-clause-answer c =
+    let s = c.args.sectors.now in
+    let i = c.loop-id.id in
+    let e = err_from_is_err_and c.from_residual.result c.from_residual.ensures.1 in
+    let inside : i < entries s = within i _ _ c.entries-id-end.ensures c.loop-id-test.true in
+    let ours : is_wanted c.args.visited.now (directory_of s) i ≡ true = wanted_is c.args.visited.now s c.loop-id.sectors i (entry_seen c.entry-entry.result) _ c.loop-id.invariant.same c.entry-entry.ensures c.is_visited_stream.ensures ∙ c.if-is_visited_stream.true in
+    λ long short h k.
+    rw (e.1, e.2) (stop_step s c.loop-id.sectors _ _ i _ _ _ c.in_err-stream.field-0.0 c.loop-id.invariant.same (c.loop-id.invariant.so_far long short h k) inside ours c.in_err-stream.ensures.answer)
+
+pub loop-id-preserved : goal.loop-id-preserved
+loop-id-preserved c =
+    let s = c.args.sectors.now in
+    let i = c.loop-id.id in
+    let inside : i < entries s = within i _ _ c.entries-id-end.ensures c.loop-id-test.true in
+    let wanted = wanted_is c.args.visited.now s c.loop-id.sectors i (entry_seen c.entry-entry.result) _ c.loop-id.invariant.same c.entry-entry.ensures c.is_visited_stream.ensures in
+    let last : length c.loop-id.nodes.items ≡ i = search rules in
+    elim c.if-is_visited_stream.branch [
+      | then-is_visited_stream+in_ok-stream+in_ok-push w ↦
+          let node : Node = record { entry = c.entry-entry.result; place = c.entry_offset-place.result; stream = w.in_ok-stream.stream } in
+          rw (w.sectors-is, w.walk-is, w.nodes-is) (record {
+            same = same-again s c.loop-id.sectors w.claim.new.self c.loop-id.invariant.same w.in_ok-stream.ensures.same;
+            count = search rules;
+            bounded = omega arith;
+            so_far = λ long short h k. rw w.in_ok-push.ensures.items (claim_step s c.loop-id.sectors _ _ i c.loop-id.nodes.items node _ _ _ _ _ c.loop-id.invariant.same (c.loop-id.invariant.so_far long short h k) inside last (wanted ∙ w.if-is_visited_stream.true) c.entry-entry.ensures c.entry_offset-place.ensures.place w.in_ok-stream.ensures.answer w.in_ok-stream.ensures.marked w.in_ok-stream.ensures.steps);
+          })
+      | else-is_visited_stream+in_ok-push-2 w ↦
+          let node : Node = record { entry = c.entry-entry.result; place = c.entry_offset-place.result; stream = w.empty.result } in
+          rw (w.sectors-is, w.walk-is, w.nodes-is) (record {
+            same = c.loop-id.invariant.same;
+            count = search rules;
+            bounded = c.loop-id.invariant.bounded;
+            so_far = λ long short h k. rw w.in_ok-push-2.ensures.items (skip_step s c.loop-id.sectors _ _ i c.loop-id.nodes.items node _ _ c.loop-id.invariant.same (c.loop-id.invariant.so_far long short h k) inside last (wanted ∙ w.if-is_visited_stream.false) c.entry-entry.ensures c.entry_offset-place.ensures.place);
+          })
+    ]
+
+pub returns-clause-answer : goal.returns-clause-answer
+returns-clause-answer c = λ long short h k.
+    let p = c.loop-id.invariant.so_far long short h k in
+    let over : entries c.args.sectors.now ≤ c.loop-id.id = omega (arith, c.entries-id-end.ensures, c.loop-id-test.false) in
+    (p.claims, progress_done c.args.sectors.now _ _ _ _ _ _ _ _ p over, p.are_nodes, p.steps)

@@ -1,0 +1,18 @@
+use Rattle.std.proofs.Common.{◌≡◌, ℕ, ◌+◌, ◌-◌, ◌<◌, ◌≤◌, List, [], length, filter, vec_len, Result, Ok}
+use Rattle.std.specs.List.{range_with_len, AllByRecursion}
+use Rattle.carrier_io.specs.Steps.{stepped}
+use Rattle.carrier_model.specs.Files.{Claim}
+use Rattle.carrier_model.specs.Marks.{Marks, unmarked}
+use Rattle.cfb_sectors.specs.States.{entries}
+use Rattle.cfb_directory.specs.Nodes.{is_wanted, claims_in, AreNodes, chain_lengths}
+use Rattle.cfb_directory.specs.Walks.{directory_of}
+use Rattle.cfb_directory.proofs.ClaimSteps.{ahead, Progress}
+use Rattle.cfb_directory.proofs.nodes.claim_streams.Given as goal
+
+abbrev pub invariant-loop-id : goal.invariant-loop-id
+invariant-loop-id l = record {
+  same : l.sectors ≡ record l.initial.sectors { marks = l.sectors.marks; mini_marks = l.sectors.mini_marks };
+  count : vec_len l.nodes ≡ l.id;
+  bounded : l.walk + unmarked l.sectors.marks + unmarked l.sectors.mini_marks ≤ l.initial.walk + unmarked l.initial.sectors.marks + unmarked l.initial.sectors.mini_marks;
+  so_far : (long short : List ℕ) → Marks l.initial.sectors.marks long → Marks l.initial.sectors.mini_marks short → Progress l.initial.sectors (is_wanted l.visited (directory_of l.initial.sectors)) l.initial.walk l.id l.nodes.items l.sectors.marks l.sectors.mini_marks l.walk (claims_in l.initial.sectors (filter (is_wanted l.visited (directory_of l.initial.sectors)) (range_with_len 0 (entries l.initial.sectors))) long short);
+}
