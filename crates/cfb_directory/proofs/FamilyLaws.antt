@@ -17,7 +17,7 @@ use Rattle.carrier_io.specs.Reads.{Fails}
 use Rattle.cfb_directory.specs.Named.{found, first_named}
 use Rattle.cfb_directory.specs.Families.{family_at, index_at, children_in}
 use Rattle.cfb_directory.specs.declared.families.Family.{Family}
-use Rattle.cfb_directory.specs.declared.links.Child.{Child}
+use Rattle.cfb_directory.specs.declared.links.Member.{Member}
 
 -- a list that is seen through a function, after one of its elements is set
 pub seen-set : {A B : Type 0} (g : A → B) (xs : List A) (i : ℕ) (x : A) (p : ℕ) (d : B) → i < length xs → get_or (map g (set xs i x)) p d ≡ cond (eqb i p) (g x) (get_or (map g xs) p d)
@@ -28,7 +28,7 @@ seen-set g xs i x p d below =
       | inr other ↦ rw (map-set g xs i x, ne_eqb i p other) (get_or-set_other (map g xs) i p (g x) d (λ e. other (sym e)))
     ]
 
-pub children-push : (p : ℕ) (cs : List Child) (c : Child) → children_in p (cs ++ c ∷ []) ≡ cond (eqb c.parent p) (children_in p cs ++ c.id ∷ []) (children_in p cs)
+pub children-push : (p : ℕ) (cs : List Member) (c : Member) → children_in p (cs ++ c ∷ []) ≡ cond (eqb c.parent p) (children_in p cs ++ c.id ∷ []) (children_in p cs)
 children-push p [] c = refl
 children-push p (b ∷ cs) c =
     elim (cases_Bool (eqb b.parent p)) [
@@ -37,7 +37,7 @@ children-push p (b ∷ cs) c =
     ]
 
 -- one more child in its storage
-pub family_more : (families : List Family) (order : List Child) (i : ℕ) (c : Child) (f : Family) (d : Child) → i < length order → c ≡ get_or order i d → c.parent < length families → ((p : ℕ) → family_at families p ≡ children_in p (take i order)) → f.children.items ≡ family_at families c.parent ++ c.id ∷ [] → (p : ℕ) → family_at (set families c.parent f) p ≡ children_in p (take (i + 1) order)
+pub family_more : (families : List Family) (order : List Member) (i : ℕ) (c : Member) (f : Family) (d : Member) → i < length order → c ≡ get_or order i d → c.parent < length families → ((p : ℕ) → family_at families p ≡ children_in p (take i order)) → f.children.items ≡ family_at families c.parent ++ c.id ∷ [] → (p : ℕ) → family_at (set families c.parent f) p ≡ children_in p (take (i + 1) order)
 family_more families order i c f d below is inside before put p =
     seen-set (λ f. f.children.items) families c.parent f p [] inside
     ∙ (ap (λ l. cond (eqb c.parent p) l (family_at families p)) (put ∙ ap (λ l. l ++ c.id ∷ []) (before c.parent))

@@ -11,10 +11,10 @@ use Rattle.carrier_model.specs.Links.{Links, leaf, node, ids, siblings, AreNew}
 use Rattle.carrier_model.proofs.VisitLaws.{AreNew-split}
 use Rattle.cfb_directory.specs.Families.{children_in}
 use Rattle.cfb_directory.specs.Walks.{placed, IsInside}
-use Rattle.cfb_directory.specs.declared.links.Child.{Child}
+use Rattle.cfb_directory.specs.declared.links.Member.{Member}
 use Rattle.cfb_directory.proofs.TreeLaws.{HasKids}
 
-children-append : (q : ℕ) (xs ys : List Child) → children_in q (xs ++ ys) ≡ children_in q xs ++ children_in q ys
+children-append : (q : ℕ) (xs ys : List Member) → children_in q (xs ++ ys) ≡ children_in q xs ++ children_in q ys
 children-append q [] ys = refl
 children-append q (x ∷ xs) ys =
     elim (cases_Bool (eqb x.parent q)) [
@@ -22,7 +22,7 @@ children-append q (x ∷ xs) ys =
       | inr other ↦ rw (other, children-append q xs ys) refl
     ]
 
-pub children-inside : (n q : ℕ) (xs : List Child) → All (IsInside n) xs → All (λ k. k < n) (children_in q xs)
+pub children-inside : (n q : ℕ) (xs : List Member) → All (IsInside n) xs → All (λ k. k < n) (children_in q xs)
 children-inside n q [] h = All-nil (λ k. k < n)
 children-inside n q (x ∷ xs) h =
     elim (cases_Bool (eqb x.parent q)) [
@@ -40,10 +40,10 @@ out-left q xs ys h = elim (cases_Bool (member q xs)) [ inl a ↦ absurd (no (sym
 out-right : (q : ℕ) (xs ys : List ℕ) → member q (xs ++ ys) ≡ false → member q ys ≡ false
 out-right q xs ys h = rw (list_any-append (eqb q) xs ys, out-left q xs ys h) at h
 
-in-left : (q : ℕ) (xs ys : List ℕ) → member q xs ≡ true → member q (xs ++ ys) ≡ true
+pub in-left : (q : ℕ) (xs ys : List ℕ) → member q xs ≡ true → member q (xs ++ ys) ≡ true
 in-left q xs ys h = list_any-append (eqb q) xs ys ∙ rw h refl
 
-in-right : (q : ℕ) (xs ys : List ℕ) → member q ys ≡ true → member q (xs ++ ys) ≡ true
+pub in-right : (q : ℕ) (xs ys : List ℕ) → member q ys ≡ true → member q (xs ++ ys) ≡ true
 in-right q xs ys h = list_any-append (eqb q) xs ys ∙ elim (cases_Bool (member q xs)) [ inl a ↦ rw a refl | inr a ↦ rw (a, h) refl ]
 
 -- what is new is none of the seen ones
@@ -55,7 +55,7 @@ new-out seen (x ∷ xs) q h there =
       | inr other ↦ out-left q seen (x ∷ []) (new-out (seen ++ x ∷ []) xs q h.1 (rw other at there))
     ]
 
-clear : (seen xs : List ℕ) (q : ℕ) → AreNew seen xs → member q seen ≡ true → member q xs ≡ false
+pub clear : (seen xs : List ℕ) (q : ℕ) → AreNew seen xs → member q seen ≡ true → member q xs ≡ false
 clear seen xs q h there = elim (cases_Bool (member q xs)) [ inl a ↦ absurd (cc (new-out seen xs q h a, there)) | inr a ↦ a ]
 
 apart : (p q : ℕ) (s : List ℕ) → member p s ≡ true → member q s ≡ false → eqb p q ≡ false
@@ -96,7 +96,7 @@ children-own p (node id l r c) h =
     children-node p p id l r c
     ∙ rw (children-own p l left, eq-eqb p p refl, children-own p r (out-left p (ids r) (ids c) rest), children-none p id c (away p id (ids c) one.0 (out-right p (ids r) (ids c) rest)), append-nil (siblings r)) refl
 
-self : (id : ℕ) (xs : List ℕ) → member id (id ∷ xs) ≡ true
+pub self : (id : ℕ) (xs : List ℕ) → member id (id ∷ xs) ≡ true
 self id xs = rw (eq-eqb id id refl) refl
 
 -- Each entry's children are the siblings of its child link, where no entry is linked twice.

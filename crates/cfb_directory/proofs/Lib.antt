@@ -2,5 +2,6 @@ pub mod ClaimSteps
 pub mod FamilyLaws
 pub mod KidLaws
 pub mod NameLaws
+pub mod OutlineLaws
 pub mod TreeLaws
 pub mod WalkLaws

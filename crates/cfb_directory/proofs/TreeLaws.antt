@@ -12,7 +12,7 @@ use Rattle.carrier_model.specs.Streams.{Stream}
 use Rattle.cfb_directory.specs.Families.{children_in}
 use Rattle.cfb_directory.specs.Trees.{Table, tag_at, built, under}
 use Rattle.cfb_directory.specs.Walks.{placed}
-use Rattle.cfb_directory.specs.declared.links.Child.{Child}
+use Rattle.cfb_directory.specs.declared.links.Member.{Member}
 
 -- the children of each entry are the siblings of its child link
 abbrev pub HasKids : (ℕ → List ℕ) → Links → Type 0

@@ -13,20 +13,20 @@ use Rattle.carrier_io.specs.declared.reasons.Stop.{Stop}
 use Rattle.carrier_io.specs.declared.reasons.Stop.TheVariants as stops
 use Rattle.carrier_io.specs.Reads.{Fails}
 use Rattle.cfb_directory.specs.declared.links.Link.{Link}
-use Rattle.cfb_directory.specs.declared.links.Child.{Child}
+use Rattle.cfb_directory.specs.declared.links.Member.{Member}
 use Rattle.cfb_directory.specs.declared.links.Pending.{Pending}
 use Rattle.cfb_directory.specs.declared.links.Pending.TheVariants.{Visit, Place}
 use Rattle.cfb_directory.specs.Walks.{Walked, placed, tour, link_of, walk_of, rust_left, rust_right, rust_below, pend, with_front, IsSafe}
 
 -- two lists as what a walk gives
-abbrev made : List Child → List ℕ → Result Walked Fault
+abbrev made : List Member → List ℕ → Result Walked Fault
 made a v = Ok (record { order = a; visits = v })
 
-same_walked : (a b : List Child) (v w : List ℕ) → a ≡ b → v ≡ w → made a v ≡ made b w
+same_walked : (a b : List Member) (v w : List ℕ) → a ≡ b → v ≡ w → made a v ≡ made b w
 same_walked a b v w h k = rw (h, k) refl
 
 -- two fronts make one
-fronts : (xs ys : List Child) (vs ws : List ℕ) (r : Result Walked Fault) → with_front xs vs (with_front ys ws r) ≡ with_front (xs ++ ys) (vs ++ ws) r
+fronts : (xs ys : List Member) (vs ws : List ℕ) (r : Result Walked Fault) → with_front xs vs (with_front ys ws r) ≡ with_front (xs ++ ys) (vs ++ ws) r
 fronts xs ys vs ws (Ok rest) = same_walked _ _ _ _ (sym (append_assoc xs ys rest.order)) (sym (append_assoc vs ws rest.visits))
 fronts xs ys vs ws (Err f) = refl
 
@@ -81,11 +81,11 @@ pend_none d link ps seen none =
     ap (λ z. z >>= λ t. with_front (placed link.parent t) (ids t) (pend d ps (seen ++ ids t))) (visit-body d.count d (link_of link) seen ∙ cond-true (eqb link.target no_link) (Ok leaf) _ (eq-eqb link.target no_link none))
     ∙ (front_none (pend d ps (seen ++ [])) ∙ ap (pend d ps) (append-nil seen))
 
-pub pend_place : (d : Directory) (child : Child) (ps : List Pending) (seen : List ℕ) → pend d (Place child ∷ ps) seen ≡ with_front (child ∷ []) [] (pend d ps seen)
+pub pend_place : (d : Directory) (child : Member) (ps : List Pending) (seen : List ℕ) → pend d (Place child ∷ ps) seen ≡ with_front (child ∷ []) [] (pend d ps seen)
 unfolding pend
 pend_place d child ps seen = refl
 
-pub pend_stop : (d : Directory) (link : Link) (ps : List Pending) (seen : List ℕ) (xs : List Child) (vs : List ℕ) (s : Stop) → (link.target ≡ no_link → ⊥) → Fails s (visited d (link_of link) seen) → Fails s (with_front xs vs (pend d (Visit link ∷ ps) seen))
+pub pend_stop : (d : Directory) (link : Link) (ps : List Pending) (seen : List ℕ) (xs : List Member) (vs : List ℕ) (s : Stop) → (link.target ≡ no_link → ⊥) → Fails s (visited d (link_of link) seen) → Fails s (with_front xs vs (pend d (Visit link ∷ ps) seen))
 unfolding pend body
 pend_stop d link ps seen xs vs stops.NoMemory other h = tt
 pend_stop d link ps seen xs vs (stops.Fault f) other h = rw (visit_whole d (link_of link) seen other, h) refl
@@ -94,16 +94,16 @@ rev_pop : (old new : List Pending) (x : Pending) → old ≡ new ++ x ∷ [] →
 rev_pop old new x is = rw is (reverse-append new (x ∷ []))
 
 -- The steps of the loop. What the whole gives is what stands in order so far, and what the pending ones give.
-pub place_step : (d : Directory) (w : Result Walked Fault) (xs : List Child) (vs now : List ℕ) (old new : List Pending) (child : Child) → w ≡ with_front xs vs (pend d (reverse old) now) → old ≡ new ++ Place child ∷ [] → w ≡ with_front (xs ++ child ∷ []) vs (pend d (reverse new) now)
+pub place_step : (d : Directory) (w : Result Walked Fault) (xs : List Member) (vs now : List ℕ) (old new : List Pending) (child : Member) → w ≡ with_front xs vs (pend d (reverse old) now) → old ≡ new ++ Place child ∷ [] → w ≡ with_front (xs ++ child ∷ []) vs (pend d (reverse new) now)
 place_step d w xs vs now old new child is popped =
     is ∙ (ap (λ ps. with_front xs vs (pend d ps now)) (rev_pop old new (Place child) popped) ∙ (ap (with_front xs vs) (pend_place d child (reverse new) now)
     ∙ (fronts xs (child ∷ []) vs [] (pend d (reverse new) now) ∙ ap (λ v. with_front (xs ++ child ∷ []) v (pend d (reverse new) now)) (append-nil vs))))
 
-pub none_step : (d : Directory) (w : Result Walked Fault) (xs : List Child) (vs now : List ℕ) (old new : List Pending) (link : Link) → w ≡ with_front xs vs (pend d (reverse old) now) → old ≡ new ++ Visit link ∷ [] → link.target ≡ no_link → w ≡ with_front xs vs (pend d (reverse new) now)
+pub none_step : (d : Directory) (w : Result Walked Fault) (xs : List Member) (vs now : List ℕ) (old new : List Pending) (link : Link) → w ≡ with_front xs vs (pend d (reverse old) now) → old ≡ new ++ Visit link ∷ [] → link.target ≡ no_link → w ≡ with_front xs vs (pend d (reverse new) now)
 none_step d w xs vs now old new link is popped none =
     is ∙ (ap (λ ps. with_front xs vs (pend d ps now)) (rev_pop old new (Visit link) popped) ∙ ap (with_front xs vs) (pend_none d link (reverse new) now none))
 
-pub visit_step : (d : Directory) (w : Result Walked Fault) (xs : List Child) (vs seen : List ℕ) (old new put : List Pending) (link : Link) (e : Entry) (p : ℕ) → w ≡ with_front xs vs (pend d (reverse old) (seen ++ vs)) → old ≡ new ++ Visit link ∷ [] → (link.target ≡ no_link → ⊥) → visited d (link_of link) (seen ++ vs) ≡ Ok e → e ≡ d.entry link.target → p ≡ d.place link.target → put ≡ new ++ Visit (rust_below link e p) ∷ Visit (rust_right link e p) ∷ Place (record { parent = link.parent; id = link.target }) ∷ Visit (rust_left link e p) ∷ [] → w ≡ with_front xs (vs ++ link.target ∷ []) (pend d (reverse put) (seen ++ (vs ++ link.target ∷ [])))
+pub visit_step : (d : Directory) (w : Result Walked Fault) (xs : List Member) (vs seen : List ℕ) (old new put : List Pending) (link : Link) (e : Entry) (p : ℕ) → w ≡ with_front xs vs (pend d (reverse old) (seen ++ vs)) → old ≡ new ++ Visit link ∷ [] → (link.target ≡ no_link → ⊥) → visited d (link_of link) (seen ++ vs) ≡ Ok e → e ≡ d.entry link.target → p ≡ d.place link.target → put ≡ new ++ Visit (rust_below link e p) ∷ Visit (rust_right link e p) ∷ Place (record { parent = link.parent; id = link.target }) ∷ Visit (rust_left link e p) ∷ [] → w ≡ with_front xs (vs ++ link.target ∷ []) (pend d (reverse put) (seen ++ (vs ++ link.target ∷ [])))
 visit_step d w xs vs seen old new put link e p is popped other here ee ep pushed =
     let same : put ≡ new ++ Visit (rust_below link (d.entry link.target) (d.place link.target)) ∷ Visit (rust_right link (d.entry link.target) (d.place link.target)) ∷ Place (record { parent = link.parent; id = link.target }) ∷ Visit (rust_left link (d.entry link.target) (d.place link.target)) ∷ [] = rw (ee, ep) at pushed in
     let here_now = (seen ++ vs) ++ link.target ∷ [] in
@@ -113,11 +113,11 @@ visit_step d w xs vs seen old new put link e p is popped other here ee ep pushed
     ∙ (ap (λ z. with_front z (vs ++ link.target ∷ []) (pend d (reverse put) here_now)) (append-nil xs)
     ∙ ap (λ s. with_front xs (vs ++ link.target ∷ []) (pend d (reverse put) s)) (append_assoc seen vs (link.target ∷ []))))))
 
-pub stop_step : (d : Directory) (w : Result Walked Fault) (xs : List Child) (vs now : List ℕ) (old new : List Pending) (link : Link) (s : Stop) → w ≡ with_front xs vs (pend d (reverse old) now) → old ≡ new ++ Visit link ∷ [] → (link.target ≡ no_link → ⊥) → Fails s (visited d (link_of link) now) → Fails s w
+pub stop_step : (d : Directory) (w : Result Walked Fault) (xs : List Member) (vs now : List ℕ) (old new : List Pending) (link : Link) (s : Stop) → w ≡ with_front xs vs (pend d (reverse old) now) → old ≡ new ++ Visit link ∷ [] → (link.target ≡ no_link → ⊥) → Fails s (visited d (link_of link) now) → Fails s w
 stop_step d w xs vs now old new link s is popped other here =
     rw (is ∙ ap (λ ps. with_front xs vs (pend d ps now)) (rev_pop old new (Visit link) popped)) (pend_stop d link (reverse new) now xs vs s other here)
 
-pub done_step : (d : Directory) (w : Result Walked Fault) (xs : List Child) (vs now : List ℕ) (old : List Pending) → w ≡ with_front xs vs (pend d (reverse old) now) → old ≡ [] → w ≡ Ok (record { order = xs; visits = vs })
+pub done_step : (d : Directory) (w : Result Walked Fault) (xs : List Member) (vs now : List ℕ) (old : List Pending) → w ≡ with_front xs vs (pend d (reverse old) now) → old ≡ [] → w ≡ Ok (record { order = xs; visits = vs })
 unfolding pend
 done_step d w xs vs now old is none = is ∙ (ap (λ ps. with_front xs vs (pend d (reverse ps) now)) none ∙ same_walked _ _ _ _ (append-nil xs) (append-nil vs))
 
@@ -130,7 +130,7 @@ safe_put n old new put link e p all popped inside shallow pushed =
       | inl storage ↦ rw (eq-eqb e.kind 1 storage) (omega (arith, shallow storage))
       | inr other ↦ rw (ne_eqb e.kind 1 other) (omega arith)
     ] in
-    let child : Child = record { parent = link.parent; id = link.target } in
+    let child : Member = record { parent = link.parent; id = link.target } in
     let one = Visit (rust_left link e p) ∷ [] in
     let two = Place child ∷ one in
     let three = Visit (rust_right link e p) ∷ two in

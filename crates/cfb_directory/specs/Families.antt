@@ -2,7 +2,7 @@
 use Rattle.std.specs.Prelude.{ℕ, List, [], ◌∷◌, get_or, map, Option, None, nat_eq, if◌then◌else◌}
 use Rattle.cfb_directory.specs.Named.{found}
 use Rattle.cfb_directory.specs.declared.families.Family.{Family}
-use Rattle.cfb_directory.specs.declared.links.Child.{Child}
+use Rattle.cfb_directory.specs.declared.links.Member.{Member}
 
 -- the numbers of an entry's children
 abbrev pub family_at : List Family → ℕ → List ℕ
@@ -13,6 +13,6 @@ abbrev pub index_at : List Family → ℕ → List ℕ → Option ℕ
 index_at families p = get_or (map (λ f. found f.names) families) p (λ _. None)
 
 -- the entries that are in this storage
-abbrev pub children_in : ℕ → List Child → List ℕ
+abbrev pub children_in : ℕ → List Member → List ℕ
 children_in p [] = []
 children_in p (c ∷ cs) = if nat_eq c.parent p then c.id ∷ children_in p cs else children_in p cs

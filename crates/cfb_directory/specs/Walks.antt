@@ -7,7 +7,7 @@ use Rattle.carrier_model.specs.Links.{Directory, Link, Links, leaf, node, ids, v
 use Rattle.carrier_model.specs.Files.{directory_in}
 use Rattle.cfb_sectors.specs.States.{State}
 use Rattle.cfb_directory.specs.declared.links.Link as rust
-use Rattle.cfb_directory.specs.declared.links.Child.{Child}
+use Rattle.cfb_directory.specs.declared.links.Member.{Member}
 use Rattle.cfb_directory.specs.declared.links.Walked as rust_walked
 use Rattle.cfb_directory.specs.declared.links.Pending.{Pending}
 use Rattle.cfb_directory.specs.declared.links.Pending.TheVariants.{Visit, Place}
@@ -20,13 +20,13 @@ abbrev pub link_of : rust.Link → Link
 link_of link = record { target = link.target; place = link.place; depth = link.depth }
 
 -- each entry with the storage that it is in, in sibling order within each storage
-abbrev pub placed : ℕ → Links → List Child
+abbrev pub placed : ℕ → Links → List Member
 placed parent leaf = []
 placed parent (node id l r c) = placed parent l ++ record { parent = parent; id = id } ∷ (placed parent r ++ placed id c)
 
 -- the entries with their storages, and the numbers in the order of the visits
 pub record Walked : Type 0 where
-  pub order : List Child
+  pub order : List Member
   pub visits : List ℕ
 
 abbrev pub walked : rust_walked.Walked → Walked
@@ -50,7 +50,7 @@ abbrev pub rust_below : rust.Link → Entry → ℕ → rust.Link
 rust_below link e place = record { target = below_link e; place = place + 76; depth = below_depth e link.depth; parent = link.target }
 
 -- the same with a front before each list
-abbrev pub with_front : List Child → List ℕ → Result Walked Fault → Result Walked Fault
+abbrev pub with_front : List Member → List ℕ → Result Walked Fault → Result Walked Fault
 with_front order visits (Ok rest) = Ok (record { order = order ++ rest.order; visits = visits ++ rest.visits })
 with_front order visits (Err g) = Err g
 
@@ -61,7 +61,7 @@ pend d (Visit link ∷ ps) seen = visit (suc d.count) d (link_of link) seen >>= 
 pend d (Place child ∷ ps) seen = with_front (child ∷ []) [] (pend d ps seen)
 
 -- both are entries that there are
-abbrev pub IsInside : ℕ → Child → Type 0
+abbrev pub IsInside : ℕ → Member → Type 0
 IsInside count child = (child.parent < count) × (child.id < count)
 
 -- what is pending speaks of entries that there are

@@ -8,7 +8,7 @@ ghost use Rattle.cfb_directory.specs.Families.{family_at, index_at, children_in}
 ghost use Rattle.cfb_directory.specs.Named.{found, key_of, first_named};
 ghost use Rattle.cfb_directory.specs.Walks.{directory_of, IsInside};
 
-use crate::links::Child;
+use crate::links::Member;
 use crate::names::{NameIndex, index_names};
 use carrier_io::{NoMemory, Stop};
 use cfb_sectors::Sectors;
@@ -38,7 +38,7 @@ fn no_families(alloc: Global, count: u32) -> Result<Vec<Family>, NoMemory>
 }
 
 /// The children of each of so many entries, in sibling order. None is indexed by name yet.
-pub fn group_children(alloc: Global, count: u32, order: &[Child]) -> Result<Vec<Family>, NoMemory>
+pub fn group_children(alloc: Global, count: u32, order: &[Member]) -> Result<Vec<Family>, NoMemory>
     requires { All (IsInside count) order.now }
     ensures count { IfOk result (λ v. vec_len v ≡ count) }
     ensures children { IfOk result (λ v. (p : ℕ) → family_at v.items p ≡ children_in p order.now) }

@@ -5,9 +5,10 @@ mod families;
 mod links;
 mod names;
 mod nodes;
+mod outline;
 mod walk;
 
-pub use links::{Child, Link, Walked};
+pub use links::{Member, Link, Walked};
 pub use walk::walk_directory;
 
 #[cfg(test)]

@@ -12,7 +12,7 @@ pub struct Link {
 
 /// An entry in a storage, each by its number.
 #[derive(Clone, Copy)]
-pub struct Child {
+pub struct Member {
     pub parent: u32,
     pub id: u32,
 }
@@ -21,14 +21,14 @@ pub struct Child {
 #[derive(Clone, Copy)]
 pub enum Pending {
     Visit(Link),
-    Place(Child),
+    Place(Member),
 }
 
 /// The entries that a walk visited.
 #[derive(Drop)]
 pub struct Walked {
     /// Each with its storage, in sibling order within each storage.
-    pub order: Vec<Child>,
+    pub order: Vec<Member>,
     /// Their numbers, in the order of the visits.
     pub visits: Vec<u32>,
 }
