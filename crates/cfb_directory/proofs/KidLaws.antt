@@ -123,26 +123,26 @@ has_kids kids p seen (node id l r c) new known same =
     let own2 : member id s2 ≡ true = in-left id s1 (ids l) own in
     let own3 : member id s3 ≡ true = in-left id s2 (ids r) own2 in
     let on_left : (q : ℕ) → member q (ids l) ≡ true → kids q ≡ children_in q (placed p l) = λ q there.
-        let out : member q s1 ≡ false = new-out s1 (ids l) q nl.0 there in
-        let pq : eqb p q ≡ false = apart p q s1 known1 out in
-        let qi : eqb q id ≡ false = flip q id (apart id q s1 own out) in
-        let in2 : member q s2 ≡ true = in-right q s1 (ids l) there in
-        let qr : member q (ids r) ≡ false = clear s2 (ids r) q nr.0 in2 in
-        let qc : member q (ids c) ≡ false = clear s3 (ids c) q nc (in-left q s2 (ids r) in2) in
-        inside q (in-left q (ids l) (ids r ++ ids c) there) ∙ rw (pq, children-none q p r (away q p (ids r) (flip q p pq) qr), children-none q id c (away q id (ids c) qi qc), append-nil (children_in q (placed p l))) refl in
+    let out : member q s1 ≡ false = new-out s1 (ids l) q nl.0 there in
+    let pq : eqb p q ≡ false = apart p q s1 known1 out in
+    let qi : eqb q id ≡ false = flip q id (apart id q s1 own out) in
+    let in2 : member q s2 ≡ true = in-right q s1 (ids l) there in
+    let qr : member q (ids r) ≡ false = clear s2 (ids r) q nr.0 in2 in
+    let qc : member q (ids c) ≡ false = clear s3 (ids c) q nc (in-left q s2 (ids r) in2) in
+    inside q (in-left q (ids l) (ids r ++ ids c) there) ∙ rw (pq, children-none q p r (away q p (ids r) (flip q p pq) qr), children-none q id c (away q id (ids c) qi qc), append-nil (children_in q (placed p l))) refl in
     let on_right : (q : ℕ) → member q (ids r) ≡ true → kids q ≡ children_in q (placed p r) = λ q there.
-        let out : member q s2 ≡ false = new-out s2 (ids r) q nr.0 there in
-        let pq : eqb p q ≡ false = apart p q s2 known2 out in
-        let qi : eqb q id ≡ false = flip q id (apart id q s2 own2 out) in
-        let ql : member q (ids l) ≡ false = out-right q s1 (ids l) out in
-        let qc : member q (ids c) ≡ false = clear s3 (ids c) q nc (in-right q s2 (ids r) there) in
-        inside q (in-right q (ids l) (ids r ++ ids c) (in-left q (ids r) (ids c) there)) ∙ rw (children-none q p l (away q p (ids l) (flip q p pq) ql), pq, children-none q id c (away q id (ids c) qi qc), append-nil (children_in q (placed p r))) refl in
+    let out : member q s2 ≡ false = new-out s2 (ids r) q nr.0 there in
+    let pq : eqb p q ≡ false = apart p q s2 known2 out in
+    let qi : eqb q id ≡ false = flip q id (apart id q s2 own2 out) in
+    let ql : member q (ids l) ≡ false = out-right q s1 (ids l) out in
+    let qc : member q (ids c) ≡ false = clear s3 (ids c) q nc (in-right q s2 (ids r) there) in
+    inside q (in-right q (ids l) (ids r ++ ids c) (in-left q (ids r) (ids c) there)) ∙ rw (children-none q p l (away q p (ids l) (flip q p pq) ql), pq, children-none q id c (away q id (ids c) qi qc), append-nil (children_in q (placed p r))) refl in
     let on_below : (q : ℕ) → member q (ids c) ≡ true → kids q ≡ children_in q (placed id c) = λ q there.
-        let out : member q s3 ≡ false = new-out s3 (ids c) q nc there in
-        let pq : eqb p q ≡ false = apart p q s3 (in-left p s2 (ids r) known2) out in
-        let qr : member q (ids r) ≡ false = out-right q s2 (ids r) out in
-        let ql : member q (ids l) ≡ false = out-right q s1 (ids l) (out-left q s2 (ids r) out) in
-        inside q (in-right q (ids l) (ids r ++ ids c) (in-right q (ids r) (ids c) there)) ∙ rw (children-none q p l (away q p (ids l) (flip q p pq) ql), pq, children-none q p r (away q p (ids r) (flip q p pq) qr)) refl in
+    let out : member q s3 ≡ false = new-out s3 (ids c) q nc there in
+    let pq : eqb p q ≡ false = apart p q s3 (in-left p s2 (ids r) known2) out in
+    let qr : member q (ids r) ≡ false = out-right q s2 (ids r) out in
+    let ql : member q (ids l) ≡ false = out-right q s1 (ids l) (out-left q s2 (ids r) out) in
+    inside q (in-right q (ids l) (ids r ++ ids c) (in-right q (ids r) (ids c) there)) ∙ rw (children-none q p l (away q p (ids l) (flip q p pq) ql), pq, children-none q p r (away q p (ids r) (flip q p pq) qr)) refl in
     (here, has_kids kids p s1 l nl.0 known1 on_left, has_kids kids p s2 r nr.0 known2 on_right, has_kids kids id s3 c nc own3 on_below)
 
 -- Below each entry of a walk, in the order of the visits, are its children.

@@ -2,7 +2,7 @@
 use Rattle.std.proofs.Common.{◌≡◌, ℕ, zero, suc, ◌+◌, ◌<◌, ◌≤◌, List, [], ◌∷◌, ◌++◌, length, map, Bool, true, false, ◌||◌, not, cond, eqb, leb, max, refl, sym, ◌∙◌, ap, subst, arith, inl, inr}
 use Rattle.std.proofs.lemmas.Bool.{cases_Bool, cases_eq, eq-eqb, ne_eqb, eqb-true, leb-true}
 use Rattle.std.proofs.lemmas.List.{append-nil, append_assoc, map-append}
-use Rattle.std.proofs.lemmas.List.Folds.{list_any-append}
+use Rattle.std.proofs.lemmas.List.Folds.{list_any-append, list_all-append}
 use Rattle.carrier_model.specs.Chains.{member}
 use Rattle.carrier_model.specs.Entries.{Entry}
 use Rattle.carrier_model.specs.Files.{Children, none, storage, stream, tree_of, families, name_of}
@@ -10,7 +10,8 @@ use Rattle.carrier_model.proofs.VisitLaws.{AreNew-split}
 use Rattle.carrier_model.specs.Links.{Directory, Links, leaf, node, ids, siblings, is_storage, Linked, AreNew, IsChild, no_link}
 use Rattle.carrier_model.specs.Streams.{Stream}
 use Rattle.cfb_directory.specs.Families.{children_in}
-use Rattle.cfb_directory.specs.Trees.{Table, tag_at, built, under}
+use Rattle.std.specs.List.{list_all}
+use Rattle.cfb_directory.specs.Trees.{Table, tag_at, built, under, ends}
 use Rattle.cfb_directory.specs.Walks.{placed}
 use Rattle.cfb_directory.specs.declared.links.Member.{Member}
 
@@ -83,42 +84,63 @@ levels_bound d depth x (node id l r c) few shallow h =
               rw (nothing d 0 c few nowhere) (omega arith)
         ]
 
--- More levels than there are change nothing.
-enough_at : (T : Table) (d : Directory) (streams : ℕ → Stream) (t : Links) (k id : ℕ) → levels t ≤ k → Agrees T d streams t → member id (ids t) ≡ true → under T k id ≡ under T (suc k) id
-unfolding under
-enough_at T d streams leaf k id deep same there = absurd (cc)
-enough_at T d streams (node x l r c) zero id deep same there = absurd (omega arith)
-enough_at T d streams (node x l r c) (suc j) id deep same there =
+-- No more levels are below an entry than there are.
+all_end : (kids : ℕ → List ℕ) (t : Links) (k : ℕ) → levels t ≤ k → HasKids kids t → list_all (ends kids k) (siblings t) ≡ true
+unfolding ends
+all_end kids leaf k deep same = refl
+all_end kids (node id l r c) zero deep same = absurd (omega arith)
+all_end kids (node id l r c) (suc j) deep same =
+    let here : list_all (ends kids j) (kids id) ≡ true = ap (list_all (ends kids j)) same.0 ∙ all_end kids c j (omega arith) same.3 in
+    list_all-append (ends kids (suc j)) (siblings l) (id ∷ siblings r) ∙ rw (all_end kids l (suc j) (omega arith) same.1, here, all_end kids r (suc j) (omega arith) same.2) refl
+
+ends_at : (kids : ℕ → List ℕ) (t : Links) (k id : ℕ) → levels t ≤ k → HasKids kids t → member id (ids t) ≡ true → ends kids k id ≡ true
+unfolding ends
+ends_at kids leaf k id deep same there = absurd (cc)
+ends_at kids (node x l r c) zero id deep same there = absurd (omega arith)
+ends_at kids (node x l r c) (suc j) id deep same there =
     elim (cases_Bool (eqb id x)) [
-      | inl here ↦
-          let small = ap (λ l. built T (under T j) l none) same.0 ∙ tree_built T d streams c j none (omega arith) same.6 in
-          let large = ap (λ l. built T (under T (suc j)) l none) same.0 ∙ tree_built T d streams c (suc j) none (omega arith) same.6 in
-          rw (eqb-true id x here) (small ∙ sym large)
+      | inl here ↦ rw (eqb-true id x here) (ap (list_all (ends kids j)) same.0 ∙ all_end kids c j (omega arith) same.3)
       | inr other ↦
           let behind : member id (ids l ++ (ids r ++ ids c)) ≡ true = rw other at there in
           elim (cases_Bool (member id (ids l))) [
-            | inl a ↦ enough_at T d streams l (suc j) id (omega arith) same.4 a
+            | inl a ↦ ends_at kids l (suc j) id (omega arith) same.1 a
             | inr a ↦
                 let later : member id (ids r ++ ids c) ≡ true = rw (list_any-append (eqb id) (ids l) (ids r ++ ids c), a) at behind in
                 elim (cases_Bool (member id (ids r))) [
-                  | inl b ↦ enough_at T d streams r (suc j) id (omega arith) same.5 b
-                  | inr b ↦ enough_at T d streams c (suc j) id (omega arith) same.6 (rw (list_any-append (eqb id) (ids r) (ids c), b) at later)
+                  | inl b ↦ ends_at kids r (suc j) id (omega arith) same.2 b
+                  | inr b ↦ ends_at kids c (suc j) id (omega arith) same.3 (rw (list_any-append (eqb id) (ids r) (ids c), b) at later)
                 ]
           ]
     ]
 
-pub enough : (T : Table) (d : Directory) (streams : ℕ → Stream) (t : Links) (k : ℕ) → levels t < k → Agrees T d streams t → T.kids 0 ≡ siblings t → ((id : ℕ) → member id (0 ∷ ids t) ≡ false → T.kids id ≡ []) → (id : ℕ) → under T k id ≡ under T (suc k) id
-unfolding under
-enough T d streams t zero deep same root others id = absurd (omega arith)
-enough T d streams t (suc j) deep same root others id =
+pub all_ends : (kids : ℕ → List ℕ) (t : Links) (k : ℕ) → levels t < k → HasKids kids t → kids 0 ≡ siblings t → ((id : ℕ) → member id (0 ∷ ids t) ≡ false → kids id ≡ []) → (id : ℕ) → ends kids k id ≡ true
+unfolding ends
+all_ends kids t zero deep same root others id = absurd (omega arith)
+all_ends kids t (suc j) deep same root others id =
     elim (cases_Bool (member id (0 ∷ ids t))) [
       | inr absent ↦ rw (others id absent) refl
       | inl there ↦
           elim (cases_Bool (eqb id 0)) [
-            | inl here ↦
-                let small = ap (λ l. built T (under T j) l none) root ∙ tree_built T d streams t j none (omega arith) same in
-                let large = ap (λ l. built T (under T (suc j)) l none) root ∙ tree_built T d streams t (suc j) none (omega arith) same in
-                rw (eqb-true id 0 here) (small ∙ sym large)
-            | inr other ↦ enough_at T d streams t (suc j) id (omega arith) same (rw other at there)
+            | inl here ↦ rw (eqb-true id 0 here) (ap (list_all (ends kids j)) root ∙ all_end kids t j (omega arith) same)
+            | inr other ↦ ends_at kids t (suc j) id (omega arith) same (rw other at there)
           ]
     ]
+
+built-same : (T : Table) (f g : ℕ → Children) (p : ℕ → Bool) (xs : List ℕ) (rest : Children) → list_all p xs ≡ true → ((x : ℕ) → p x ≡ true → f x ≡ g x) → built T f xs rest ≡ built T g xs rest
+built-same T f g p [] rest all same = refl
+built-same T f g p (x ∷ xs) rest all same =
+    elim (cases_Bool (p x)) [
+      | inr failed ↦ absurd (cc (rw failed at all))
+      | inl ok ↦
+          let more : list_all p xs ≡ true = rw ok at all in
+          elim (cases_Bool (is_storage (T.entry x))) [
+            | inl ours ↦ rw (ours, same x ok, built-same T f g p xs rest more same) refl
+            | inr other ↦ rw (other, built-same T f g p xs rest more same) refl
+          ]
+    ]
+
+-- More levels than there are change nothing.
+pub enough : (T : Table) (k id : ℕ) → ends T.kids k id ≡ true → under T k id ≡ under T (suc k) id
+unfolding ends under
+enough T zero id end = absurd (cc)
+enough T (suc k) id end = built-same T (under T k) (under T (suc k)) (ends T.kids k) (T.kids id) none end (λ x h. enough T k x h)

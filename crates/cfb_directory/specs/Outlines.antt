@@ -1,9 +1,9 @@
 -- What a directory has, up to its first fault.
-use Rattle.std.specs.Prelude.{◌≡◌, ℕ, ◌<◌, List, [], ◌∷◌, length, vec_len, All, Result, Ok, Err}
+use Rattle.std.specs.Prelude.{◌≡◌, ℕ, ◌<◌, ◌≤◌, List, [], ◌∷◌, length, vec_len, All, Result, Ok, Err}
 use Rattle.carrier_model.specs.Trail.{Fault}
 use Rattle.carrier_model.specs.Outcomes.{◌>>=◌}
 use Rattle.carrier_model.specs.Files.{first_link, all_families, names_of}
-use Rattle.carrier_model.specs.Links.{Directory, Links, ids, links_of}
+use Rattle.carrier_model.specs.Links.{Directory, Links, ids, links_of, no_link}
 use Rattle.carrier_model.specs.Marks.{Marks}
 use Rattle.carrier_io.specs.declared.reasons.Stop.{Stop}
 use Rattle.carrier_io.specs.Reads.{Fails}
@@ -23,6 +23,8 @@ pub record IsOutline (d : Directory) (outline : Outline) (t : Links) : Type 0 wh
   pub marks : Marks outline.visited (0 ∷ ids t)
   pub length : length outline.visited ≡ d.count
   pub count : vec_len outline.families ≡ d.count
+  pub few : d.count ≤ no_link
+  pub some : 1 ≤ d.count
   pub kids : (p : ℕ) → family_at outline.families.items p ≡ children_in p (placed 0 t)
   pub inside : (p : ℕ) → All (λ k. k < d.count) (family_at outline.families.items p)
   pub names : (p : ℕ) (q : List ℕ) → p < d.count → index_at outline.families.items p q ≡ first_named (key_of d) q (family_at outline.families.items p)

@@ -1,5 +1,6 @@
 -- A tree of storages and streams, from the children of each entry by number.
-use Rattle.std.specs.Prelude.{ℕ, zero, suc, List, [], ◌∷◌, if◌then◌else◌}
+use Rattle.std.specs.Prelude.{ℕ, zero, suc, List, [], ◌∷◌, Bool, false, if◌then◌else◌}
+use Rattle.std.specs.List.{list_all}
 use Rattle.carrier_model.specs.Entries.{Entry}
 use Rattle.carrier_model.specs.Files.{Tag, Children, none, storage, stream, name_of}
 use Rattle.carrier_model.specs.Links.{is_storage}
@@ -26,3 +27,8 @@ built T below (id ∷ ids) rest =
 unfoldable pub under : Table → ℕ → ℕ → Children
 under T zero id = none
 under T (suc levels) id = built T (under T levels) (T.kids id) none
+
+-- whether nothing is below an entry deeper than so many levels
+unfoldable pub ends : (ℕ → List ℕ) → ℕ → ℕ → Bool
+ends kids zero id = false
+ends kids (suc levels) id = list_all (ends kids levels) (kids id)

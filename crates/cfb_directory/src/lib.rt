@@ -2,13 +2,17 @@
 #![tactic(auto)]
 
 mod families;
+mod files;
 mod links;
 mod names;
 mod nodes;
+mod opening;
 mod outline;
 mod walk;
 
-pub use links::{Member, Link, Walked};
+pub use files::Files;
+pub use links::{Link, Member, Walked};
+pub use opening::open_files;
 pub use walk::walk_directory;
 
 #[cfg(test)]

@@ -8,7 +8,7 @@ ghost use Rattle.cfb_sectors.specs.Views.{entry as entry_seen};
 ghost use Rattle.cfb_directory.specs.declared.links.Pending.TheVariants.{Visit, Place};
 ghost use Rattle.cfb_directory.specs.Walks.{directory_of, link_of, walked, walk_of, IsInside, rust_left, rust_right, rust_below};
 
-use crate::links::{Member, Link, Pending, Walked};
+use crate::links::{Link, Member, Pending, Walked};
 use carrier_io::{Fault, NoMemory, Reason, Stop};
 use cfb_sectors::{Entry, SectorMarks, Sectors};
 use std::alloc::Global;

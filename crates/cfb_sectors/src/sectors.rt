@@ -55,6 +55,7 @@ impl<'a> Sectors<'a> {
         ensures file { IfOk result (λ s. (s.file ≡ bytes.now) × (s.size ≡ 512)) }
         ensures some { IfOk result (λ s. 1 ≤ length s.loaded.directory) }
         ensures root { IfOk result (λ s. (entry_of s 0).kind ≡ 5) }
+        ensures few { IfOk result (λ s. mini_bound s.loaded.mini ≤ 4194304) }
         ensures marks { IfOk result (λ s. Marks s.marks (taken_by s.loaded)) }
         ensures mini_marks { IfOk result (λ s. Marks s.mini_marks []) }
         ensures steps { IfOk result (λ s. walk.new ≡ stepped walk.old (length s.loaded.directory + length s.loaded.mini.table.sectors + length s.loaded.mini.stream)) }

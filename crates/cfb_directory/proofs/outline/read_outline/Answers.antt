@@ -1,4 +1,4 @@
-use Rattle.std.proofs.Common.{◌≡◌, ℕ, ◌+◌, ◌<◌, List, [], ◌∷◌, ◌++◌, length, map, cond, set, true, sym, ◌∙◌, ap, subst, rules, Ok, refl}
+use Rattle.std.proofs.Common.{◌≡◌, ℕ, ◌+◌, ◌<◌, List, [], ◌∷◌, ◌++◌, length, map, cond, set, true, sym, ◌∙◌, ap, subst, rules, Ok, refl, arith}
 use Rattle.std.specs.Prelude.{All}
 use Rattle.std.proofs.lemmas.Result.{err_from_is_err_and}
 use Rattle.carrier_model.specs.Files.{first_link, all_families, names_of}
@@ -42,17 +42,21 @@ returns c =
     let visits : c.deref-2.result.now ≡ 0 ∷ ids found.0 = c.deref-2.ensures.value ∙ (c.in_ok-insert.ensures.items ∙ ap (λ l. 0 ∷ l) found.3) in
     let families : map (family_at c.in_ok-families.families.items) c.deref-2.result.now ≡ all_families found.0 = ap (map (family_at c.in_ok-families.families.items)) visits ∙ outline_families (family_at c.in_ok-families.families.items) found.0 new same in
     let kids : (p : ℕ) → family_at c.index_families.new.families.items p ≡ children_in p (placed 0 found.0) = λ p. c.in_ok-index_families.ensures.children p ∙ same p in
-    let count = c.entries-count.ensures in
-    (found.0, record {
-      linked = found.1;
-      apart = ap (names_of d) (sym families) ∙ c.in_ok-index_families.ensures.answer;
-      marks = subst (λ l. Marks c.walk_directory.new.marks (0 ∷ l)) found.3 (c.in_ok-order.ensures.marked (0 ∷ []) marked);
-      length = c.in_ok-order.ensures.length ∙ (root_length c.entries-count.result c.mark.new.self (c.mark.ensures ∙ ap (λ m. set m 0 true) c.in_ok-visited.ensures) ∙ count);
-      count = c.in_ok-index_families.ensures.count ∙ (c.in_ok-families.ensures.count ∙ count);
-      kids = kids;
-      inside = λ p. rw (c.in_ok-index_families.ensures.children p, c.in_ok-families.ensures.children p) (children-inside (entries c.args.sectors.now) p c.deref.result.now (rw c.deref.ensures.value c.in_ok-order.ensures.order));
-      names = λ p q below. c.in_ok-index_families.ensures.named p q below
-          ∙ (ap (λ l. first_named (key_of d) q (cond (member p l) (family_at c.in_ok-families.families.items p) [])) visits
-          ∙ (ap (first_named (key_of d) q) (outline_known (family_at c.in_ok-families.families.items) found.0 p same)
-          ∙ ap (first_named (key_of d) q) (sym (c.in_ok-index_families.ensures.children p))));
-    })
+    let count = c.entries-count.ensures in (
+      found.0,
+      record {
+        linked = found.1;
+        apart = ap (names_of d) (sym families) ∙ c.in_ok-index_families.ensures.answer;
+        marks = subst (λ l. Marks c.walk_directory.new.marks (0 ∷ l)) found.3 (c.in_ok-order.ensures.marked (0 ∷ []) marked);
+        length = c.in_ok-order.ensures.length ∙ (root_length c.entries-count.result c.mark.new.self (c.mark.ensures ∙ ap (λ m. set m 0 true) c.in_ok-visited.ensures) ∙ count);
+        count = c.in_ok-index_families.ensures.count ∙ (c.in_ok-families.ensures.count ∙ count);
+        few = omega arith;
+        some = c.requires;
+        kids = kids;
+        inside = λ p. rw (c.in_ok-index_families.ensures.children p, c.in_ok-families.ensures.children p) (children-inside (entries c.args.sectors.now) p c.deref.result.now (rw c.deref.ensures.value c.in_ok-order.ensures.order));
+        names = λ p q below. c.in_ok-index_families.ensures.named p q below
+            ∙ (ap (λ l. first_named (key_of d) q (cond (member p l) (family_at c.in_ok-families.families.items p) [])) visits
+            ∙ (ap (first_named (key_of d) q) (outline_known (family_at c.in_ok-families.families.items) found.0 p same)
+            ∙ ap (first_named (key_of d) q) (sym (c.in_ok-index_families.ensures.children p))));
+      },
+    )

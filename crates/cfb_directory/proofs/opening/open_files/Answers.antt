@@ -1,0 +1,75 @@
+use Rattle.std.proofs.Common.{rules, ◌≡◌, ◌+◌, ◌≤◌, ◌<◌, ◌^◌, length, IfOk, Ok, ℕ, List, [], sym, ◌∙◌, ap, subst, arith, refl}
+use Rattle.std.proofs.lemmas.Result.{err_from_is_err_and}
+use Rattle.carrier_model.specs.Files.{Opened, open_of, opened_of, steps_of}
+use Rattle.carrier_model.specs.Loads.{load_of, taken_by, mini_bound}
+use Rattle.carrier_model.specs.Sectors.{sector_count}
+use Rattle.carrier_io.specs.Reads.{Gives}
+use Rattle.cfb_directory.specs.Shown.{files, mini_limit}
+use Rattle.cfb_directory.specs.Walks.{directory_of}
+use Rattle.cfb_directory.specs.declared.outline.Outline.{Outline}
+use Rattle.cfb_directory.proofs.OpenLaws.{load_stops, linked_stops, open_stops, open_done, shape_is, shape_ends, shape_named, load_same, opened_once, exact_steps, stopped_same, opened_same, files_same}
+use Rattle.cfb_directory.proofs.opening.open_files.Goals as goal
+
+pub returns-in_err-sectors-clause-answer : goal.returns-in_err-sectors-clause-answer
+returns-in_err-sectors-clause-answer c =
+    let p = err_from_is_err_and c.from_residual.result c.from_residual.ensures.1 in
+    rw (p.1, p.2) (load_stops 512 c.args.bytes.now c.in_err-sectors.field-0.0 c.in_err-sectors.ensures.answer)
+
+pub returns-in_err-families-clause-answer : goal.returns-in_err-families-clause-answer
+returns-in_err-families-clause-answer c =
+    let p = err_from_is_err_and c.from_residual-in_err-families.result c.from_residual-in_err-families.ensures.1 in
+    let s = c.in_ok-sectors.sectors in
+    rw (p.1, p.2) (stopped_same s c.args.bytes.now c.in_err-families.field-0.0 c.in_ok-sectors.ensures.file (linked_stops s.size s.file s.loaded c.in_err-families.field-0.0 (load_same s c.args.bytes.now c.in_ok-sectors.ensures.file c.in_ok-sectors.ensures.answer) c.in_err-families.ensures))
+
+pub returns-in_err-nodes-clause-answer : goal.returns-in_err-nodes-clause-answer
+returns-in_err-nodes-clause-answer c =
+    let p = err_from_is_err_and c.from_residual-in_err-nodes.result c.from_residual-in_err-nodes.ensures.1 in
+    let s = c.in_ok-sectors.sectors in
+    let outline = c.in_ok-families.field-0 in
+    let o = c.in_ok-families.ensures in
+    let load = load_same s c.args.bytes.now c.in_ok-sectors.ensures.file c.in_ok-sectors.ensures.answer in
+    let failed = c.in_err-nodes.ensures.answer (taken_by s.loaded) [] c.in_ok-sectors.ensures.marks c.in_ok-sectors.ensures.mini_marks in
+    rw (p.1, p.2) (stopped_same s c.args.bytes.now c.in_err-nodes.field-0.0 c.in_ok-sectors.ensures.file (open_stops s outline o.0 c.in_err-nodes.field-0.0 load o.1 c.in_ok-sectors.ensures.root failed))
+
+pub invariant_of-result : goal.invariant_of-result
+invariant_of-result c =
+    let s = c.in_ok-sectors.sectors in
+    let outline = c.in_ok-families.field-0 in
+    let o = c.in_ok-families.ensures in
+    let load = load_same s c.args.bytes.now c.in_ok-sectors.ensures.file c.in_ok-sectors.ensures.answer in
+    let claimed = c.in_ok-nodes.ensures.answer (taken_by s.loaded) [] c.in_ok-sectors.ensures.marks c.in_ok-sectors.ensures.mini_marks in
+    let nodes = c.in_ok-nodes.nodes.items in
+    let length_is : length nodes ≡ (directory_of s).count = sym c.in_ok-nodes.nodes.ok.0 ∙ c.in_ok-nodes.ensures.count in
+    record {
+      count = o.1.count ∙ sym c.in_ok-nodes.ensures.count;
+      some = rw c.in_ok-nodes.ensures.count o.1.some;
+      inside = λ p. rw c.in_ok-nodes.ensures.count (o.1.inside p);
+      named = λ p q below. shape_named s outline o.0 _ claimed.0 nodes o.1 claimed.2 length_is p q (rw (← c.in_ok-nodes.nodes.ok.0) below);
+      deep = shape_ends s outline o.0 o.1;
+    }
+
+pub returns-clause-answer : goal.returns-clause-answer
+returns-clause-answer c =
+    let s = c.in_ok-sectors.sectors in
+    let outline = c.in_ok-families.field-0 in
+    let o = c.in_ok-families.ensures in
+    let load = load_same s c.args.bytes.now c.in_ok-sectors.ensures.file c.in_ok-sectors.ensures.answer in
+    let claimed = c.in_ok-nodes.ensures.answer (taken_by s.loaded) [] c.in_ok-sectors.ensures.marks c.in_ok-sectors.ensures.mini_marks in
+    let nodes = c.in_ok-nodes.nodes.items in
+    let length_is : length nodes ≡ (directory_of s).count = sym c.in_ok-nodes.nodes.ok.0 ∙ c.in_ok-nodes.ensures.count in
+    files_same s c.args.bytes.now claimed.0 o.0 _ c.in_ok-sectors.ensures.file
+    (shape_is s outline o.0 claimed.0 nodes o.1 c.in_ok-sectors.ensures.root claimed.2 length_is)
+    (open_done s outline o.0 claimed.0 nodes load o.1 c.in_ok-sectors.ensures.root claimed.1)
+
+pub returns-clause-steps : goal.returns-clause-steps
+returns-clause-steps c =
+    let s = c.in_ok-sectors.sectors in
+    let outline = c.in_ok-families.field-0 in
+    let o = c.in_ok-families.ensures in
+    let load = load_same s c.args.bytes.now c.in_ok-sectors.ensures.file c.in_ok-sectors.ensures.answer in
+    let claimed = c.in_ok-nodes.ensures.answer (taken_by s.loaded) [] c.in_ok-sectors.ensures.marks c.in_ok-sectors.ensures.mini_marks in
+    λ p is small.
+    let same = opened_once p _ (sym is ∙ opened_same s c.args.bytes.now _ c.in_ok-sectors.ensures.file (open_done s outline o.0 claimed.0 c.in_ok-nodes.nodes.items load o.1 c.in_ok-sectors.ensures.root claimed.1)) in
+    let few : sector_count 512 c.args.bytes.now ≤ 524288 = omega arith in
+    let within : c.claim_streams.new.walk ≤ c.args.walk.now + sector_count 512 c.args.bytes.now + mini_bound s.loaded.mini = omega (arith, c.in_ok-sectors.ensures.left, c.in_ok-sectors.ensures.left_mini, c.claim_streams.ensures.bounded) in
+    rw same (exact_steps c.args.walk.now c.load.new.walk c.claim_streams.new.walk _ _ (sector_count 512 c.args.bytes.now) (mini_bound s.loaded.mini) c.in_ok-sectors.ensures.steps claimed.3 within few c.in_ok-sectors.ensures.few small)

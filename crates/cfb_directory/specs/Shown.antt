@@ -1,0 +1,15 @@
+-- Opened files as plain data.
+use Rattle.std.specs.Prelude.{ℕ, Result, Ok, Err}
+use Rattle.carrier_model.specs.Files as plain
+use Rattle.carrier_model.specs.Loads.{Loaded, mini_bound}
+use Rattle.carrier_model.specs.Trail.{Fault}
+use Rattle.cfb_directory.specs.Shapes.{shape}
+use Rattle.cfb_directory.specs.declared.files.Files.{Files}
+
+abbrev pub files : Files → plain.Files
+files f = shape f.nodes.items f.families.items
+
+-- how many mini sectors may be followed: none where the tables have a fault
+abbrev pub mini_limit : Result Loaded Fault → ℕ
+mini_limit (Ok s) = mini_bound s.mini
+mini_limit (Err g) = 0

@@ -1,0 +1,28 @@
+//! A compound file opened.
+ghost use Rattle.std.specs.Prelude.{◌≡◌, ◌+◌, ◌≤◌, ◌<◌, ◌^◌, length, IfOk, Ok};
+ghost use Rattle.carrier_model.specs.Files.{Opened, open_of, opened_of, steps_of};
+ghost use Rattle.carrier_model.specs.Loads.{load_of};
+ghost use Rattle.carrier_model.specs.Sectors.{sector_count};
+ghost use Rattle.carrier_io.specs.Reads.{Gives};
+ghost use Rattle.cfb_directory.specs.Shown.{files, mini_limit};
+
+use crate::files::Files;
+use crate::nodes::claim_streams;
+use crate::outline::{Outline, read_outline};
+use carrier_io::{Stop, Walk};
+use cfb_sectors::Sectors;
+use std::alloc::Global;
+
+/// Opens a compound file of at most 268,435,456 bytes. The first fault of its header, its tables, its directory and its
+/// streams, in this order. The walk counts each word of the FAT and the mini FAT that is followed.
+pub fn open_files<'a>(alloc: Global, bytes: &'a [u8], walk: &mut Walk) -> Result<Files<'a>, Stop>
+    requires short { length bytes.now ≤ 268435456 }
+    ensures answer { Gives files result (open_of 512 bytes.now) }
+    ensures bounded { walk.new ≤ walk.old + sector_count 512 bytes.now + mini_limit (load_of 512 bytes.now) }
+    ensures steps { (o : Opened) → opened_of 512 bytes.now ≡ Ok o → walk.old < 2 ^ 63 → IfOk result (λ _. walk.new ≡ walk.old + steps_of o) }
+{
+    let mut sectors = Sectors::load(alloc, bytes, walk)?;
+    let Outline { families, visited } = read_outline(alloc, &sectors)?;
+    let nodes = claim_streams(alloc, &mut sectors, &visited, walk)?;
+    Ok(Files { nodes, families })
+}
