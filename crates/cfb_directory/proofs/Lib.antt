@@ -1,3 +1,4 @@
+pub mod BothSides
 pub mod ClaimSteps
 pub mod FamilyLaws
 pub mod KidLaws

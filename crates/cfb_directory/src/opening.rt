@@ -1,9 +1,10 @@
 //! A compound file opened.
-ghost use Rattle.std.specs.Prelude.{◌≡◌, ◌+◌, ◌≤◌, ◌<◌, ◌^◌, length, IfOk, Ok};
+ghost use Rattle.std.specs.Prelude.{◌≡◌, ◌+◌, ◌≤◌, ◌<◌, ◌^◌, length, IfOk, Ok, Err};
 ghost use Rattle.carrier_model.specs.Files.{Opened, open_of, opened_of, steps_of};
 ghost use Rattle.carrier_model.specs.Loads.{load_of};
 ghost use Rattle.carrier_model.specs.Sectors.{sector_count};
-ghost use Rattle.carrier_io.specs.Reads.{Gives};
+ghost use Rattle.carrier_model.specs.Holds.{Holds};
+ghost use Rattle.carrier_io.specs.Reads.{Gives, Reads};
 ghost use Rattle.cfb_directory.specs.Shown.{files, mini_limit};
 
 use crate::files::Files;
@@ -18,6 +19,7 @@ use std::alloc::Global;
 pub fn open_files<'a>(alloc: Global, bytes: &'a [u8], walk: &mut Walk) -> Result<Files<'a>, Stop>
     requires short { length bytes.now ≤ 268435456 }
     ensures answer { Gives files result (open_of 512 bytes.now) }
+    ensures both { Reads files result (Holds 512 bytes.now) (λ g. open_of 512 bytes.now ≡ Err g) }
     ensures bounded { walk.new ≤ walk.old + sector_count 512 bytes.now + mini_limit (load_of 512 bytes.now) }
     ensures steps { (o : Opened) → opened_of 512 bytes.now ≡ Ok o → walk.old < 2 ^ 63 → IfOk result (λ _. walk.new ≡ walk.old + steps_of o) }
 {

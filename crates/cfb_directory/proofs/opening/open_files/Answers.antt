@@ -7,6 +7,7 @@ use Rattle.carrier_io.specs.Reads.{Gives}
 use Rattle.cfb_directory.specs.Shown.{files, mini_limit}
 use Rattle.cfb_directory.specs.Walks.{directory_of}
 use Rattle.cfb_directory.specs.declared.outline.Outline.{Outline}
+use Rattle.cfb_directory.proofs.BothSides.{both_sides, found_sides}
 use Rattle.cfb_directory.proofs.OpenLaws.{load_stops, linked_stops, open_stops, open_done, shape_is, shape_ends, shape_named, load_same, opened_once, exact_steps, stopped_same, opened_same, files_same}
 use Rattle.cfb_directory.proofs.opening.open_files.Goals as goal
 
@@ -73,3 +74,15 @@ returns-clause-steps c =
     let few : sector_count 512 c.args.bytes.now ≤ 524288 = omega arith in
     let within : c.claim_streams.new.walk ≤ c.args.walk.now + sector_count 512 c.args.bytes.now + mini_bound s.loaded.mini = omega (arith, c.in_ok-sectors.ensures.left, c.in_ok-sectors.ensures.left_mini, c.claim_streams.ensures.bounded) in
     rw same (exact_steps c.args.walk.now c.load.new.walk c.claim_streams.new.walk _ _ (sector_count 512 c.args.bytes.now) (mini_bound s.loaded.mini) c.in_ok-sectors.ensures.steps claimed.3 within few c.in_ok-sectors.ensures.few small)
+
+pub returns-in_err-sectors-clause-both : goal.returns-in_err-sectors-clause-both
+returns-in_err-sectors-clause-both c = both_sides files c.from_residual.result c.args.bytes.now c.requires.short (returns-in_err-sectors-clause-answer c)
+
+pub returns-in_err-families-clause-both : goal.returns-in_err-families-clause-both
+returns-in_err-families-clause-both c = both_sides files c.from_residual-in_err-families.result c.args.bytes.now c.requires.short (returns-in_err-families-clause-answer c)
+
+pub returns-in_err-nodes-clause-both : goal.returns-in_err-nodes-clause-both
+returns-in_err-nodes-clause-both c = both_sides files c.from_residual-in_err-nodes.result c.args.bytes.now c.requires.short (returns-in_err-nodes-clause-answer c)
+
+pub returns-clause-both : goal.returns-clause-both
+returns-clause-both c = found_sides _ c.args.bytes.now c.requires.short (returns-clause-answer c)
