@@ -6,7 +6,9 @@ use Rattle.std.specs.BTreeMap.{BTreeMap, get_by, UpdatesBy}
 use Rattle.std.specs.Cmp.Lexicographic.{slice_cmp, pointwise}
 use Rattle.std.specs.Ordering.{nat_cmp, is_eq, eq_by_cmp}
 use Rattle.std.specs.Map.{KeepsOthers, IsKeyTest, AreApart, lookup}
-use Rattle.std.proofs.lemmas.Bool.{cases_Bool, cond-true, cond-false}
+use Rattle.std.proofs.Common.{eqb}
+use Rattle.std.proofs.lemmas.Bool.{cases_Bool, cond-true, cond-false, eqb-true}
+use Rattle.std.proofs.lemmas.List.Folds.{list_any-append}
 use Rattle.std.proofs.lemmas.Cmp.{eq_by_cmp_equiv, nat_list_cmp_total, nat_list_eq_equiv}
 use Rattle.std.proofs.Math.Seq.{take-suc, drop-cons}
 use Rattle.std.proofs.lemmas.List.{map-append, drop_all}
@@ -15,9 +17,10 @@ use Rattle.std.proofs.lemmas.Slice.Eq.{bytes_eq-Decides}
 use Rattle.carrier_model.specs.Trail.{Fault}
 use Rattle.carrier_model.specs.Reasons.{DOUBLE_NAME}
 use Rattle.carrier_model.specs.Outcomes.{◌>>=◌, check}
-use Rattle.carrier_model.specs.Files.{is_among, family_names}
+use Rattle.carrier_model.specs.Files.{is_among, family_names, names_of}
+use Rattle.carrier_model.specs.Chains.{member}
 use Rattle.carrier_model.specs.Links.{Directory}
-use Rattle.cfb_directory.specs.Named.{key_of, first_named}
+use Rattle.cfb_directory.specs.Named.{key_of, first_named, are_apart}
 
 apart : (x y k : List ℕ) → pointwise nat_eq x y ≡ false → is_eq (slice_cmp nat_cmp x k) ≡ true → is_eq (slice_cmp nat_cmp y k) ≡ false
 apart x y k n h =
@@ -94,3 +97,54 @@ family_done d family i w over is = is ∙ ap (λ l. family_names d l (map (key_o
 
 pub family_more : (d : Directory) (q family : List ℕ) (i : ℕ) → i < length family → first_named (key_of d) (key_of d (get_or family i 0)) (take i family) ≡ None → first_named (key_of d) q (take (i + 1) family) ≡ cond (pointwise nat_eq (key_of d (get_or family i 0)) q) (Some (get_or family i 0)) (first_named (key_of d) q (take i family))
 family_more d q family i below none = rw (add-one, take-suc family i 0 below) (named_more d q (take i family) (get_or family i 0) none)
+
+-- a name that is among the earlier ones comes no more, where all are apart
+later_none : (d : Directory) (xs : List ℕ) (earlier : List (List ℕ)) (k : List ℕ) → is_among k earlier ≡ true → family_names d xs earlier ≡ Ok tt → first_named (key_of d) k xs ≡ None
+unfolding family_names
+later_none d [] earlier k there is = refl
+later_none d (x ∷ xs) earlier k there is =
+    elim (cases_Bool (is_among (key_of d x) earlier)) [
+      | inl double ↦ absurd (cc (rw double at is))
+      | inr new ↦
+          elim (cases_Bool (pointwise nat_eq k (key_of d x))) [
+            | inl same ↦ absurd (cc (subst (λ l. is_among l earlier ≡ true) ((bytes_eq-Decides k (key_of d x)).0 same) there, new))
+            | inr other ↦ rw other (later_none d xs (earlier ++ key_of d x ∷ []) k (more k earlier (key_of d x) there) (rw new at is))
+          ]
+    ]
+  where
+    more : (k : List ℕ) (earlier : List (List ℕ)) (l : List ℕ) → is_among k earlier ≡ true → is_among k (earlier ++ l ∷ []) ≡ true
+    more k earlier l h = list_any-append (pointwise nat_eq k) earlier (l ∷ []) ∙ rw h refl
+
+family_apart-after : (d : Directory) (xs : List ℕ) (earlier : List (List ℕ)) → family_names d xs earlier ≡ Ok tt → are_apart (key_of d) xs ≡ true
+unfolding family_names
+family_apart-after d [] earlier is = refl
+family_apart-after d (x ∷ xs) earlier is =
+    elim (cases_Bool (is_among (key_of d x) earlier)) [
+      | inl double ↦ absurd (cc (rw double at is))
+      | inr new ↦
+          let rest : family_names d xs (earlier ++ key_of d x ∷ []) ≡ Ok tt = rw new at is in
+          rw (later_none d xs (earlier ++ key_of d x ∷ []) (key_of d x) (last (key_of d x) earlier) rest) (family_apart-after d xs (earlier ++ key_of d x ∷ []) rest)
+    ]
+  where
+    last : (k : List ℕ) (earlier : List (List ℕ)) → is_among k (earlier ++ k ∷ []) ≡ true
+    last k earlier = list_any-append (pointwise nat_eq k) earlier (k ∷ []) ∙ elim (cases_Bool (is_among k earlier)) [
+      | inl a ↦ rw a refl
+      | inr a ↦ rw (a, nat_list_eq_equiv.refl k) refl
+    ]
+
+pub family_apart : (d : Directory) (xs : List ℕ) → family_names d xs [] ≡ Ok tt → are_apart (key_of d) xs ≡ true
+family_apart d xs is = family_apart-after d xs [] is
+
+pub families_apart : (d : Directory) (fam : ℕ → List ℕ) (visits : List ℕ) (p : ℕ) → names_of d (map fam visits) ≡ Ok tt → member p visits ≡ true → are_apart (key_of d) (fam p) ≡ true
+unfolding names_of
+families_apart d fam [] p is there = absurd (cc)
+families_apart d fam (x ∷ visits) p is there =
+    let here = cases_one (family_names d (fam x) []) is in
+    elim (cases_Bool (eqb p x)) [
+      | inl same ↦ rw (eqb-true p x same) (family_apart d (fam x) here.0)
+      | inr other ↦ families_apart d fam visits p here.1 (rw other at there)
+    ]
+  where
+    cases_one : (r : Result (Unit {0}) Fault) → (r >>= λ _. names_of d (map fam visits)) ≡ Ok tt → (r ≡ Ok tt) × (names_of d (map fam visits) ≡ Ok tt)
+    cases_one (Ok u) h = (refl, h)
+    cases_one (Err g) h = absurd (cc)

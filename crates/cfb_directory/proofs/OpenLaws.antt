@@ -1,11 +1,14 @@
 -- An opened file, from its parts.
-use Rattle.std.proofs.Common.{◌≡◌, ℕ, zero, suc, ◌+◌, ◌<◌, ◌≤◌, List, [], ◌∷◌, ◌++◌, length, get_or, filter, Bool, true, false, ◌&&◌, ◌||◌, not, cond, eqb, refl, sym, ◌∙◌, ap, subst, arith, Ok, Err, Result, inl, inr}
+use Rattle.std.proofs.Common.{◌≡◌, ℕ, zero, suc, ◌+◌, ◌<◌, ◌≤◌, List, [], ◌∷◌, ◌++◌, length, get_or, filter, map, take, ◌-◌, ◌/◌, Bool, true, false, ◌&&◌, ◌||◌, not, cond, eqb, refl, sym, ◌∙◌, ap, subst, arith, Ok, Err, Result, inl, inr}
 use Rattle.std.specs.List.{range_with_len}
-use Rattle.std.proofs.lemmas.Bool.{cases_Bool, cases_eq, eq-eqb, ne_eqb, eqb-true}
+use Rattle.std.specs.Char.{to_ascii_lowercase}
+use Rattle.std.proofs.lemmas.List.{length-take, length-map, get_or_past}
+use Rattle.cfb_sectors.specs.Views.{entry as entry_seen}
+use Rattle.std.proofs.lemmas.Bool.{cases_Bool, cases_eq, cases_lt, eq-eqb, ne_eqb, eqb-true}
 use Rattle.carrier_model.specs.Trail.{Fault}
 use Rattle.carrier_model.specs.Outcomes.{◌>>=◌, mapped}
 use Rattle.carrier_model.specs.Chains.{member}
-use Rattle.carrier_model.specs.Entries.{Entry}
+use Rattle.carrier_model.specs.Entries.{Entry, entry_at}
 use Rattle.carrier_model.specs.Files.{Files, Children, none, Opened, Claim, directory_in, first_link, all_families, names_of, stream_ids, claims_of, chain_in, tree_of, files_of, opened_of, open_of}
 use Rattle.carrier_model.specs.Links.{Directory, Links, leaf, node, ids, siblings, is_storage, has_type, IsChild, Linked, AreNew, links_of, below_depth, below_link, no_link}
 use Rattle.carrier_model.specs.Loads.{Loaded, load_of, taken_by, stream_of}
@@ -15,7 +18,7 @@ use Rattle.carrier_io.specs.declared.reasons.Stop.{Stop}
 use Rattle.carrier_io.specs.declared.reasons.Stop.TheVariants as stops
 use Rattle.carrier_io.specs.Reads.{Fails}
 use Rattle.cfb_sectors.specs.States.{State, entries, entry_of, place_of}
-use Rattle.cfb_directory.specs.Nodes.{AreNodes, entry_in, place_in, stream_in, is_wanted, claims_in}
+use Rattle.cfb_directory.specs.Nodes.{AreNodes, no_entry, entry_in, place_in, stream_in, is_wanted, claims_in}
 use Rattle.std.specs.List.{All}
 use Rattle.std.specs.Cmp.Lexicographic.{pointwise}
 use Rattle.std.proofs.lemmas.List.Elements.{All-head, All-tail}
@@ -23,7 +26,7 @@ use Rattle.std.proofs.Common.{Some}
 use Rattle.carrier_model.specs.Files.{folded, name_of}
 use Rattle.carrier_io.specs.Steps.{stepped}
 use Rattle.cfb_directory.specs.Families.{family_at, index_at}
-use Rattle.cfb_directory.specs.Named.{key_of, first_named}
+use Rattle.cfb_directory.specs.Named.{key_of, first_named, are_apart}
 use Rattle.cfb_directory.specs.Outlines.{linked_of, IsOutline}
 use Rattle.cfb_directory.specs.Shapes.{table_of, key_in, deepest, tree_at, shape}
 use Rattle.cfb_directory.specs.Trees.{Table, built, under, ends}
@@ -32,7 +35,8 @@ use Rattle.cfb_directory.specs.declared.families.Family.{Family}
 use Rattle.cfb_directory.specs.declared.nodes.Node.{Node}
 use Rattle.cfb_directory.specs.declared.outline.Outline.{Outline}
 use Rattle.cfb_directory.proofs.KidLaws.{in-left, in-right, self}
-use Rattle.cfb_directory.proofs.OutlineLaws.{outline_links, outline_own, outline_kids, outline_others}
+use Rattle.cfb_directory.proofs.NameLaws.{families_apart}
+use Rattle.cfb_directory.proofs.OutlineLaws.{outline_links, outline_own, outline_kids, outline_families, outline_others}
 use Rattle.cfb_directory.proofs.TreeLaws.{HasKids, Agrees, levels, levels_bound, tree_built, all_ends, enough}
 
 filter-same : (f g : ℕ → Bool) (a n : ℕ) → ((k : ℕ) → k < a + n → f k ≡ g k) → filter f (range_with_len a n) ≡ filter g (range_with_len a n)
@@ -147,6 +151,41 @@ named-same key other n q (x ∷ xs) inside same =
 pub shape_named : (s : State) (outline : Outline) (t : Links) (wanted : ℕ → Bool) (cs : List Claim) (nodes : List Node) → IsOutline (directory_of s) outline t → AreNodes s wanted cs nodes → length nodes ≡ (directory_of s).count → (p : ℕ) (q : List ℕ) → p < length nodes → index_at outline.families.items p q ≡ first_named (key_in nodes) q (family_at outline.families.items p)
 shape_named s outline t wanted cs nodes o are count p q below =
     o.names p q (rw (← count) below) ∙ named-same (key_of (directory_of s)) (key_in nodes) (directory_of s).count q (family_at outline.families.items p) (o.inside p) (λ k small. ap (λ (e : Entry). folded (name_of e)) (sym (are.entries k (rw count small))))
+
+apart-same : (key other : ℕ → List ℕ) (n : ℕ) (xs : List ℕ) → All (λ k. k < n) xs → ((k : ℕ) → k < n → key k ≡ other k) → are_apart key xs ≡ are_apart other xs
+apart-same key other n [] inside same = refl
+apart-same key other n (x ∷ xs) inside same =
+    rw (same x (All-head (λ k. k < n) x xs inside), named-same key other n (other x) xs (All-tail (λ k. k < n) x xs inside) same, apart-same key other n xs (All-tail (λ k. k < n) x xs inside) same) refl
+
+key_same : (s : State) (wanted : ℕ → Bool) (cs : List Claim) (nodes : List Node) → AreNodes s wanted cs nodes → length nodes ≡ (directory_of s).count → (k : ℕ) → k < (directory_of s).count → key_in nodes k ≡ key_of (directory_of s) k
+key_same s wanted cs nodes are count k small = ap (λ (e : Entry). folded (name_of e)) (are.entries k (rw count small))
+
+pub shape_apart : (s : State) (outline : Outline) (t : Links) (wanted : ℕ → Bool) (cs : List Claim) (nodes : List Node) → IsOutline (directory_of s) outline t → AreNodes s wanted cs nodes → length nodes ≡ (directory_of s).count → (p : ℕ) → are_apart (key_in nodes) (family_at outline.families.items p) ≡ true
+shape_apart s outline t wanted cs nodes o are count p =
+    let d = directory_of s in
+    let fam = family_at outline.families.items in
+    let l = outline_links d t o.linked in
+    let same = outline_families fam t l.1 o.kids in
+    apart-same (key_in nodes) (key_of d) d.count (fam p) (o.inside p) (key_same s wanted cs nodes are count)
+    ∙ elim (cases_Bool (member p (0 ∷ ids t))) [
+      | inl there ↦ families_apart d fam (0 ∷ ids t) p (ap (names_of d) same ∙ o.apart) there
+      | inr absent ↦ ap (are_apart (key_of d)) (outline_others fam t p o.kids absent)
+    ]
+
+short_of : (n : ℕ) (units : List ℕ) → length (folded (take n units)) ≤ length units
+short_of n units = rw (length-map, length-take n units) (omega arith)
+
+short_name : (b : List ℕ) (o : ℕ) → length (folded (name_of (entry_at b o))) ≤ 32
+short_name b o = short_of ((entry_at b o).name_bytes / 2 - 1) (entry_at b o).units
+
+pub shape_short : (s : State) (wanted : ℕ → Bool) (cs : List Claim) (nodes : List Node) → AreNodes s wanted cs nodes → (id : ℕ) → length (key_in nodes id) ≤ 32
+shape_short s wanted cs nodes are id =
+    elim (cases_lt id (length nodes)) [
+      | inl below ↦ subst (λ (e : Entry). length (folded (name_of e)) ≤ 32) (sym (are.entries id below)) (short_name s.file (place_of s id))
+      | inr past ↦
+          let over : length (map (λ (n : Node). entry_seen n.entry) nodes) ≤ id = rw length-map past in
+          subst (λ (e : Entry). length (folded (name_of e)) ≤ 32) (sym (get_or_past (map (λ (n : Node). entry_seen n.entry) nodes) id no_entry over)) (omega arith)
+    ]
 
 -- the whole, where no part stops
 pub open_done : (s : State) (outline : Outline) (t : Links) (cs : List Claim) (nodes : List Node) → load_of s.size s.file ≡ Ok s.loaded → IsOutline (directory_of s) outline t → (entry_of s 0).kind ≡ 5 → claims_in s (filter (is_wanted outline.visited (directory_of s)) (range_with_len 0 (entries s))) (taken_by s.loaded) [] ≡ Ok cs → opened_of s.size s.file ≡ Ok (record { loaded = s.loaded; links = t; claims = cs })

@@ -1,5 +1,5 @@
 -- The children of a storage by name.
-use Rattle.std.specs.Prelude.{ℕ, List, [], ◌∷◌, Option, None, Some, nat_eq, if◌then◌else◌}
+use Rattle.std.specs.Prelude.{ℕ, List, [], ◌∷◌, Bool, true, not, ◌&&◌, Option, None, Some, is_some, nat_eq, if◌then◌else◌}
 use Rattle.std.specs.BTreeMap.{get_by}
 use Rattle.std.specs.Cmp.Lexicographic.{slice_cmp, pointwise}
 use Rattle.std.specs.Ordering.{nat_cmp}
@@ -19,3 +19,8 @@ key_of d id = folded (name_of (d.entry id))
 abbrev pub first_named : (ℕ → List ℕ) → List ℕ → List ℕ → Option ℕ
 first_named key q [] = None
 first_named key q (id ∷ ids) = if pointwise nat_eq q (key id) then Some id else first_named key q ids
+
+-- whether no two of some entries have one name
+abbrev pub are_apart : (ℕ → List ℕ) → List ℕ → Bool
+are_apart key [] = true
+are_apart key (id ∷ ids) = not (is_some (first_named key (key id) ids)) && are_apart key ids

@@ -8,7 +8,7 @@ use Rattle.cfb_directory.specs.Shown.{files, mini_limit}
 use Rattle.cfb_directory.specs.Walks.{directory_of}
 use Rattle.cfb_directory.specs.declared.outline.Outline.{Outline}
 use Rattle.cfb_directory.proofs.BothSides.{both_sides, found_sides}
-use Rattle.cfb_directory.proofs.OpenLaws.{load_stops, linked_stops, open_stops, open_done, shape_is, shape_ends, shape_named, load_same, opened_once, exact_steps, stopped_same, opened_same, files_same}
+use Rattle.cfb_directory.proofs.OpenLaws.{load_stops, linked_stops, open_stops, open_done, shape_is, shape_ends, shape_named, shape_apart, shape_short, load_same, opened_once, exact_steps, stopped_same, opened_same, files_same}
 use Rattle.cfb_directory.proofs.opening.open_files.Goals as goal
 
 pub returns-in_err-sectors-clause-answer : goal.returns-in_err-sectors-clause-answer
@@ -46,6 +46,8 @@ invariant_of-result c =
       some = rw c.in_ok-nodes.ensures.count o.1.some;
       inside = λ p. rw c.in_ok-nodes.ensures.count (o.1.inside p);
       named = λ p q below. shape_named s outline o.0 _ claimed.0 nodes o.1 claimed.2 length_is p q (rw (← c.in_ok-nodes.nodes.ok.0) below);
+      apart = shape_apart s outline o.0 _ claimed.0 nodes o.1 claimed.2 length_is;
+      short = shape_short s _ claimed.0 nodes claimed.2;
       deep = shape_ends s outline o.0 o.1;
     }
 
