@@ -45,6 +45,7 @@ pub mod MsgMessage
 pub mod MsgProps
 pub mod MsgSteps
 pub mod NameMap
+pub mod NumberedLaws
 pub mod Numbers
 pub mod OneChain
 pub mod OrderLaws

@@ -326,7 +326,7 @@ storage_found c f h d name inside there = by (kid_in c f h (folder name inside) 
 
 -- ---- numbered storages
 
-abbrev numbered_kid : List ℕ → Kid → Option (ℕ × Files)
+abbrev pub numbered_kid : List ℕ → Kid → Option (ℕ × Files)
 numbered_kid prefix (stream_kid tag s) = None
 numbered_kid prefix (storage_kid tag below) = option_map (λ n. (n, storage_at tag below)) (number_in prefix tag.name)
 
@@ -338,7 +338,7 @@ numbered_entry prefix (folder name inside) = option_map (λ n. (n, inside)) (num
 abbrev pub numbers : List ℕ → FileTree → List (ℕ × FileTree)
 numbers prefix f = filter_map (numbered_entry prefix) (entries f)
 
-numbered_kids : (prefix : List ℕ) (c : Children) → numbered_in prefix c ≡ filter_map (numbered_kid prefix) (kids c)
+pub numbered_kids : (prefix : List ℕ) (c : Children) → numbered_in prefix c ≡ filter_map (numbered_kid prefix) (kids c)
 numbered_kids prefix none = refl
 numbered_kids prefix (stream tag s rest) = numbered_kids prefix rest
 numbered_kids prefix (storage tag below rest) = by (option_map (λ n. (n, storage_at tag below)) (number_in prefix tag.name)) (numbered_kids prefix rest)
@@ -409,7 +409,7 @@ insides_zip [] (t ∷ m) z = absurd z
 insides_zip (x ∷ l) [] z = absurd z
 insides_zip (x ∷ l) (t ∷ m) z = (z.0.1, insides_zip l m z.1)
 
-number_total : IsTotalOrder (by_number {A = Files})
+pub number_total : IsTotalOrder (by_number {A = Files})
 number_total = on_total (λ (p : ℕ × Files). p.0) nat_cmp_total
 
 -- The numbered storages that are found are those that were written, in order.

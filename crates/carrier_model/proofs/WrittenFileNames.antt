@@ -21,7 +21,7 @@ every_append P (x ∷ xs) ys h g = (h.0, every_append P xs ys h.1 g)
 
 -- ---- digits
 
-abbrev digit_number : ℕ → ℕ
+abbrev pub digit_number : ℕ → ℕ
 digit_number unit = cond (nat_le unit 0x39) (unit - 0x30) (unit - 0x57)
 
 -- a digit in lower case, and its number

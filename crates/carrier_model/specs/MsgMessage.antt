@@ -3,6 +3,7 @@ use Rattle.std.specs.Prelude.{◌≡◌, ℕ, zero, suc, ◌+◌, ◌*◌, ◌-�
 use Rattle.std.specs.Option.{option_map}
 use Rattle.std.specs.List.{flat_map, list_all, AllZip}
 use Rattle.std.specs.Ordering.{nat_cmp, on}
+use Rattle.std.specs.declared.cmp.Ordering.{Ordering}
 use Rattle.carrier_model.specs.Trail.{Fault}
 use Rattle.carrier_model.specs.Reasons.{TOO_DEEP, OLE_STORAGE, MISSING_STORAGE}
 use Rattle.carrier_model.specs.Outcomes.{◌>>=◌, check, mapped}
@@ -74,8 +75,14 @@ numbered_in prefix (storage tag below rest) = option_to_list (option_map (λ n. 
 numbered_in prefix (stream tag s rest) = numbered_in prefix rest
 
 -- by rising number
+abbrev pub number_cmp : ℕ × Files → ℕ × Files → Ordering
+number_cmp = on (λ p. p.0) nat_cmp
+
+abbrev pub in_order : List (ℕ × Files) → List (ℕ × Files)
+in_order = with_elements number_cmp []
+
 abbrev pub numbered : List ℕ → Files → List Files
-numbered prefix s = map (λ p. p.1) (with_elements (on (λ p. p.0) nat_cmp) [] (numbered_in prefix s.children))
+numbered prefix s = map (λ p. p.1) (in_order (numbered_in prefix s.children))
 
 -- ---- messages
 

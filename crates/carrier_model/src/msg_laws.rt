@@ -1,12 +1,14 @@
 //! Laws about .msg files.
-ghost use Rattle.std.specs.Prelude.{◌≡◌, ◌≤◌, ℕ, Bool, List, [], length, IsTrue, Ok, Err};
+ghost use Rattle.std.specs.Prelude.{◌≡◌, ◌≤◌, ℕ, Bool, List, [], length, IsTrue, IsPermutation, Ok, Err};
 ghost use Rattle.carrier_model.specs.Bytes.{AllBytes};
 ghost use Rattle.carrier_model.specs.FileTrees.{sorted};
-ghost use Rattle.carrier_model.specs.Files.{Files};
+ghost use Rattle.carrier_model.specs.Files.{Children, Files};
+ghost use Rattle.carrier_model.specs.Holds.{AreApart, child_names};
+ghost use Rattle.carrier_model.specs.Sorted.{IsStrictlySorted};
 ghost use Rattle.carrier_model.specs.Layout.{msg_of};
 ghost use Rattle.carrier_model.specs.LayoutHolds.{bare, classless, MayBeWritten, HoldsLaidOut};
 ghost use Rattle.carrier_model.specs.WrittenMsg.{files_of};
-ghost use Rattle.carrier_model.specs.MsgMessage.{files_meaning, file_meaning, FilesMean, MsgCarrier, MsgFault};
+ghost use Rattle.carrier_model.specs.MsgMessage.{numbered_in, number_cmp, in_order, files_meaning, file_meaning, FilesMean, MsgCarrier, MsgFault};
 ghost use Rattle.carrier_model.specs.MsgProps.{Part, Section, MsgProps, props_of};
 ghost use Rattle.carrier_model.specs.MsgValues.{Streams};
 ghost use Rattle.carrier_model.specs.NameMap.{NameStreams, Pair, NamePairs, pairs_of, pairs_from};
@@ -85,4 +87,10 @@ pub fn canonical_msg_carries_its_message()
     ensures carries { (t : Message) → IsTree t → length (names_of t) ≤ 32000 → HasFewParts t → HoldsLaidOut 512 (files_of t) → MsgCarrier 512 (msg_of t) t [] }
     ensures alone { (t other : Message) (passed : List Passed) → IsTree t → length (names_of t) ≤ 32000 → HasFewParts t → HoldsLaidOut 512 (files_of t) → length (msg_of t) ≤ 268435456 → MsgCarrier 512 (msg_of t) other passed → (other ≡ t) × (passed ≡ []) }
     ensures faultless { (t : Message) (g : Fault) → IsTree t → length (names_of t) ≤ 32000 → HasFewParts t → HoldsLaidOut 512 (files_of t) → length (msg_of t) ≤ 268435456 → MsgFault 512 (msg_of t) g → ⊥ }
+{}
+
+/// The recipients' storages, and the attachments', are put in order by rising number, each once: storages whose names
+/// differ have different numbers.
+pub fn numbered_storages_are_in_order()
+    ensures { (prefix : List ℕ) (c : Children) → AreApart (child_names c) → IsStrictlySorted number_cmp (in_order (numbered_in prefix c)) × IsPermutation (numbered_in prefix c) (in_order (numbered_in prefix c)) }
 {}
