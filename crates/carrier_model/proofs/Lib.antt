@@ -34,6 +34,7 @@ pub mod LaidSorted
 pub mod LaidLoaded
 pub mod LaidParts
 pub mod LaidStreams
+pub mod LaidStreamsFit
 pub mod LaidTables
 pub mod Lines
 pub mod Lists

@@ -12,6 +12,7 @@ mod msg_rows;
 mod order_laws;
 mod text_rows;
 mod tnef_laws;
+mod written_laws;
 
 pub use file_laws::{
     chains_are_exact, claims_are_exact, files_are_exact, layouts_are_found, links_are_exact,
@@ -45,3 +46,4 @@ pub use tnef_laws::{
     recipient_lists_are_exact, tnef_acceptance_is_exact, tnef_carriers_are_trees,
     tnef_messages_are_exact, trees_within_the_limits_are_carried,
 };
+pub use written_laws::written_files_carry_their_message;
