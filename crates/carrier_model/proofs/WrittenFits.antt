@@ -21,6 +21,8 @@ use Rattle.carrier_model.specs.WrittenNames.{value_name, hash_stream, has_bytes,
 use Rattle.carrier_model.specs.WrittenMsg.{PROPERTIES, OBJECT_TAG, element_name, numbered_name, element_streams, value_streams, props_streams, tag_of, list_files, recipient_files, attachment_files, body_files, message_files, is_embedded, head_of, files_of}
 use Rattle.carrier_model.specs.ReadBack.{HasFewParts, HaveFewParts, BodyHasFewParts, StreamsFit}
 use Rattle.carrier_model.proofs.WrittenFileNames.{every_append}
+use Rattle.carrier_model.proofs.Orders.{name_exact}
+use Rattle.carrier_model.proofs.SortedElements.{all_elements}
 use Rattle.carrier_model.proofs.WrittenMessages as messages
 use Rattle.carrier_model.proofs.WrittenTop as top
 use Rattle.carrier_model.proofs.WrittenTrees
@@ -196,7 +198,7 @@ unfolding NamesFit
 may_be_written (message props rs all) tree few few_parts fit =
     let t : Message = message props rs all in
     let names : List Name = names_of t in
-    let known : messages.In names (names_in t) = λ name c. top.all_elements (names_in t) [] name c in
+    let known : messages.In names (names_in t) = λ name c. all_elements name_exact (names_in t) [] name c in
     let ready = WrittenTrees.all_ready names props few tree.lists.0 (messages.among names props (messages.own_known names props rs all known)) in (
       files_apart (files_of t) (WrittenTrees.top_apart names NO_CLASS (name_map_files names) props rs all ready (tree.lists.0).sorted few_parts.0 few_parts.1),
       both_fit 1 (files_of t) (map_named, refl, omega arith, files_apart (name_map_files names) (top.map_apart names), map_fit 2 names, message_fit names few 1 true t (omega (arith, tree.levels)) tree.lists few_parts known) fit,

@@ -4,13 +4,10 @@ use Rattle.std.specs.Prelude.{All, Contains, filter_map, ◌==◌, bytes_eq, unw
 use Rattle.std.specs.List.{flat_map, position_from, range_with_len, AllByRecursion}
 use Rattle.std.specs.Ordering.{nat_cmp}
 use Rattle.std.specs.Cmp.Lexicographic.{slice_cmp}
-use Rattle.std.specs.declared.cmp.Ordering.{Ordering}
-use Rattle.std.specs.declared.cmp.Ordering.TheVariants.{Less, Equal, Greater}
 use Rattle.std.proofs.lemmas.Map.Lookups.{exact_bytes}
 use Rattle.std.proofs.lemmas.Slice.Eq.{bytes_eq-Decides}
 use Rattle.std.proofs.lemmas.List.{length-append, length-map, length-replicate, take_at, drop_at, drop-drop}
 use Rattle.std.proofs.lemmas.Bool.{cond-true, cond-false, eq-eqb, ne_eqb, le-leb, or_from}
-use Rattle.carrier_model.specs.Sorted.{choose, with_element, with_elements}
 use Rattle.carrier_model.specs.Bytes.{le32, number32}
 use Rattle.carrier_model.specs.Chains.{member}
 use Rattle.carrier_model.specs.Sectors.{u32_of}
@@ -23,76 +20,12 @@ use Rattle.carrier_model.specs.WrittenNames.{PS_MAPI, PS_PUBLIC_STRINGS, is_fixe
 use Rattle.carrier_model.specs.NameMap as read
 use Rattle.carrier_model.specs.ReadBack.{AreNames, HasNameMap}
 use Rattle.carrier_model.specs.NameMap.{NameStreams, NameEntry, name_entry, name_entries, Given, given_by, Pair, pairs_of}
-use Rattle.carrier_model.proofs.SortedLists.{in_head, in_tail}
-use Rattle.carrier_model.proofs.SortedElements.{every_from}
+use Rattle.carrier_model.proofs.SortedLists.{in_tail}
+use Rattle.carrier_model.proofs.SortedElements.{every_from, every_elements, length_elements, all_elements}
 use Rattle.carrier_model.proofs.Turns.{in_turn-only}
 use Rattle.carrier_model.proofs.Numbers.{number32-le32}
 use Rattle.carrier_model.proofs.CanonicalLists.{units_again, length-units}
 use Rattle.carrier_model.proofs.NameMap.{indexes, given_by-only}
-
--- ---- the sets
-
--- what is put into a sorted list is there, and what was there stays
-kept_element : (m : List (List ℕ)) (x y : List ℕ) → Contains m y → Contains (with_element (slice_cmp nat_cmp) m x) y
-kept_element [] x y (k, lt, e) = absurd (omega (arith, lt))
-kept_element (z ∷ m) x y (zero, lt, e) = by (slice_cmp nat_cmp z x)
-  where
-    by : (o : Ordering) → Contains (choose o (z ∷ with_element (slice_cmp nat_cmp) m x) (z ∷ m) (x ∷ z ∷ m)) y
-    by Less = (zero, omega arith, e)
-    by Equal = (zero, lt, e)
-    by Greater = (suc zero, omega (arith, lt), e)
-kept_element (z ∷ m) x y (suc k, lt, e) = by (kept_element m x y (k, omega (arith, lt), e)) (slice_cmp nat_cmp z x)
-  where
-    by : Contains (with_element (slice_cmp nat_cmp) m x) y → (o : Ordering) → Contains (choose o (z ∷ with_element (slice_cmp nat_cmp) m x) (z ∷ m) (x ∷ z ∷ m)) y
-    by c Less = in_tail z y (with_element (slice_cmp nat_cmp) m x) c
-    by c Equal = (suc k, lt, e)
-    by c Greater = (suc (suc k), omega (arith, lt), e)
-
-new_element : (m : List (List ℕ)) (x : List ℕ) → Contains (with_element (slice_cmp nat_cmp) m x) x
-new_element [] x = in_head x []
-new_element (z ∷ m) x = by (new_element m x) (slice_cmp nat_cmp z x) refl
-  where
-    by : Contains (with_element (slice_cmp nat_cmp) m x) x → (o : Ordering) → slice_cmp nat_cmp z x ≡ o → Contains (choose o (z ∷ with_element (slice_cmp nat_cmp) m x) (z ∷ m) (x ∷ z ∷ m)) x
-    by c Less e = in_tail z x (with_element (slice_cmp nat_cmp) m x) c
-    by c Equal e = subst (λ (w : List ℕ). Contains (w ∷ m) x) (sym (exact_bytes z x e)) (in_head x m)
-    by c Greater e = in_head x (z ∷ m)
-
-kept_elements : (ps m : List (List ℕ)) (y : List ℕ) → Contains m y → Contains (with_elements (slice_cmp nat_cmp) m ps) y
-kept_elements [] m y c = c
-kept_elements (p ∷ ps) m y c = kept_elements ps (with_element (slice_cmp nat_cmp) m p) y (kept_element m p y c)
-
-all_elements : (ps m : List (List ℕ)) (y : List ℕ) → Contains ps y → Contains (with_elements (slice_cmp nat_cmp) m ps) y
-all_elements [] m y (k, lt, e) = absurd (omega (arith, lt))
-all_elements (p ∷ ps) m y (zero, lt, e) = kept_elements ps (with_element (slice_cmp nat_cmp) m p) y (subst (Contains (with_element (slice_cmp nat_cmp) m p)) e (new_element m p))
-all_elements (p ∷ ps) m y (suc k, lt, e) = all_elements ps (with_element (slice_cmp nat_cmp) m p) y (k, omega (arith, lt), e)
-
--- a property that all have that are put in, and all that were there
-every_element : (P : List ℕ → Type 0) (m : List (List ℕ)) (x : List ℕ) → AllByRecursion P m → P x → AllByRecursion P (with_element (slice_cmp nat_cmp) m x)
-every_element P [] x all one = (one, tt)
-every_element P (z ∷ m) x all one = by (every_element P m x all.1 one) (slice_cmp nat_cmp z x)
-  where
-    by : AllByRecursion P (with_element (slice_cmp nat_cmp) m x) → (o : Ordering) → AllByRecursion P (choose o (z ∷ with_element (slice_cmp nat_cmp) m x) (z ∷ m) (x ∷ z ∷ m))
-    by rest Less = (all.0, rest)
-    by rest Equal = all
-    by rest Greater = (one, all)
-
-every_elements : (P : List ℕ → Type 0) (ps m : List (List ℕ)) → AllByRecursion P m → AllByRecursion P ps → AllByRecursion P (with_elements (slice_cmp nat_cmp) m ps)
-every_elements P [] m all new = all
-every_elements P (p ∷ ps) m all new = every_elements P ps (with_element (slice_cmp nat_cmp) m p) (every_element P m p all new.0) new.1
-
--- no more than are put in
-length_element : (m : List (List ℕ)) (x : List ℕ) → length (with_element (slice_cmp nat_cmp) m x) ≤ suc (length m)
-length_element [] x = omega arith
-length_element (z ∷ m) x = by (length_element m x) (slice_cmp nat_cmp z x)
-  where
-    by : length (with_element (slice_cmp nat_cmp) m x) ≤ suc (length m) → (o : Ordering) → length (choose o (z ∷ with_element (slice_cmp nat_cmp) m x) (z ∷ m) (x ∷ z ∷ m)) ≤ suc (suc (length m))
-    by le Less = omega (arith, le)
-    by le Equal = omega arith
-    by le Greater = omega arith
-
-length_elements : (ps m : List (List ℕ)) → length (with_elements (slice_cmp nat_cmp) m ps) ≤ length m + length ps
-length_elements [] m = omega arith
-length_elements (p ∷ ps) m = omega (arith, length_elements ps (with_element (slice_cmp nat_cmp) m p), length_element m p)
 
 -- ---- the place of a set in the GUID stream
 
@@ -181,13 +114,13 @@ length-filter p (x ∷ xs) = by (length-filter p xs) (p x)
 
 length-sets : (names : List Name) → length (sets_of names) ≤ length names
 length-sets names =
-    let put = length_elements (filter (λ set. not (is_fixed_set set)) (map set_of names)) [] in
+    let put = length_elements (slice_cmp nat_cmp) (filter (λ set. not (is_fixed_set set)) (map set_of names)) [] in
     let few = length-filter (λ set. not (is_fixed_set set)) (map set_of names) in
     omega (arith, put, few, length-map names set_of)
 
 sets-sixteen : (names : List Name) → AllByRecursion (λ n. length (set_of n) ≡ 16) names → Sixteen (sets_of names)
 unfolding Sixteen
-sets-sixteen names h = every_elements (λ set. length set ≡ 16) (filter (λ set. not (is_fixed_set set)) (map set_of names)) [] tt (every_filter (λ set. length set ≡ 16) (λ set. not (is_fixed_set set)) (map set_of names) (every_map (λ set. length set ≡ 16) names h))
+sets-sixteen names h = every_elements (slice_cmp nat_cmp) (λ set. length set ≡ 16) (filter (λ set. not (is_fixed_set set)) (map set_of names)) [] tt (every_filter (λ set. length set ≡ 16) (λ set. not (is_fixed_set set)) (map set_of names) (every_map (λ set. length set ≡ 16) names h))
 
 index_stands : (names : List Name) (set : List ℕ) → length names ≤ 32000 → AllByRecursion (λ n. length (set_of n) ≡ 16) names → Contains (map set_of names) set → Stands (joined (sets_of names)) set (set_index (sets_of names) set)
 unfolding IsAt
@@ -201,7 +134,7 @@ index_stands names set few sixteen c = by (bytes_cases set PS_MAPI) (bytes_cases
     by (inr (differ, other)) (inl (so, same)) = subst (Stands (joined sets) set) (sym (cond-false (bytes_eq set PS_MAPI) 1 _ differ ∙ cond-true (bytes_eq set PS_PUBLIC_STRINGS) 2 _ so)) (record { some = omega arith; few = omega arith; has = le-leb 0 (length (joined sets)) (omega arith); is = sym same })
     by (inr (differ, other)) (inr (unlike, others)) =
         let plain : not (is_fixed_set set) ≡ true = ap (λ b. not (b || bytes_eq set PS_PUBLIC_STRINGS)) differ ∙ ap not unlike in
-        let there : Contains sets set = all_elements (filter (λ x. not (is_fixed_set x)) (map set_of names)) [] set (kept_filter (λ x. not (is_fixed_set x)) (map set_of names) set c plain) in
+        let there : Contains sets set = all_elements exact_bytes (filter (λ x. not (is_fixed_set x)) (map set_of names)) [] set (kept_filter (λ x. not (is_fixed_set x)) (map set_of names) set c plain) in
         let (j, (found, below, bytes_there)) = set_place sets set 0 (sets-sixteen names sixteen) there in
         let index : set_index sets set ≡ 3 + j =
         cond-false (bytes_eq set PS_MAPI) 1 _ differ ∙ (cond-false (bytes_eq set PS_PUBLIC_STRINGS) 2 _ unlike ∙ ap (λ o. 3 + unwrap_or o 0) (found ∙ ap Some (let z : 0 + j ≡ j = omega arith in z))) in

@@ -2,9 +2,6 @@
 use Rattle.std.proofs.Common.{◌≡◌, ℕ, zero, suc, ◌+◌, ◌*◌, ◌<◌, ◌≤◌, ◌^◌, Bool, true, false, cond, List, [], ◌∷◌, ◌++◌, length, map, Ok, refl, sym, ap, subst, ◌∙◌, arith}
 use Rattle.std.specs.Prelude.{Contains, All, filter}
 use Rattle.std.specs.List.{AllByRecursion, IsDistinct, flat_map, range_with_len}
-use Rattle.std.specs.declared.cmp.Ordering.{Ordering}
-use Rattle.std.specs.declared.cmp.Ordering.TheVariants.{Less, Equal, Greater}
-use Rattle.carrier_model.specs.Sorted.{choose, with_element, with_elements}
 use Rattle.carrier_model.specs.FileTrees.{FileTree, NO_CLASS, sorted}
 use Rattle.carrier_model.specs.Files.{Files}
 use Rattle.carrier_model.specs.LayoutHolds.{bare, classless, HoldsLaidOut}
@@ -26,8 +23,7 @@ use Rattle.carrier_model.specs.Layout.{msg_of}
 use Rattle.carrier_model.specs.Trail.{Fault}
 use Rattle.carrier_model.proofs.MsgMessage.{files_meaning-sound, carriers_exact}
 use Rattle.carrier_model.proofs.Turns.{bind_from}
-use Rattle.carrier_model.proofs.SortedLists.{in_head, in_tail}
-use Rattle.carrier_model.proofs.SortedElements.{every_from, every_at}
+use Rattle.carrier_model.proofs.SortedElements.{every_from, every_at, every_elements, all_elements}
 use Rattle.carrier_model.proofs.WrittenNames.{names_read}
 use Rattle.carrier_model.proofs.WrittenFileNames.{every_append, differ_by, tag_in, tag_of_value}
 use Rattle.carrier_model.proofs.WrittenChildren.{Entry, file, folder, entries, entry_name, FoundAs, found_as, Apart, stream_found, storage_found}
@@ -70,57 +66,10 @@ mutual
   body_names nothing h = tt
   body_names (embedded inner) h = message_names inner h
 
--- what is put into a sorted list is there, and what was there stays
-kept_element : (m : List Name) (x y : Name) → Contains m y → Contains (with_element name_cmp m x) y
-kept_element [] x y (k, lt, e) = absurd (omega (arith, lt))
-kept_element (z ∷ m) x y (zero, lt, e) = by (name_cmp z x)
-  where
-    by : (o : Ordering) → Contains (choose o (z ∷ with_element name_cmp m x) (z ∷ m) (x ∷ z ∷ m)) y
-    by Less = (zero, omega arith, e)
-    by Equal = (zero, lt, e)
-    by Greater = (suc zero, omega (arith, lt), e)
-kept_element (z ∷ m) x y (suc k, lt, e) = by (kept_element m x y (k, omega (arith, lt), e)) (name_cmp z x)
-  where
-    by : Contains (with_element name_cmp m x) y → (o : Ordering) → Contains (choose o (z ∷ with_element name_cmp m x) (z ∷ m) (x ∷ z ∷ m)) y
-    by c Less = in_tail z y (with_element name_cmp m x) c
-    by c Equal = (suc k, lt, e)
-    by c Greater = (suc (suc k), omega (arith, lt), e)
-
-new_element : (m : List Name) (x : Name) → Contains (with_element name_cmp m x) x
-new_element [] x = in_head x []
-new_element (z ∷ m) x = by (new_element m x) (name_cmp z x) refl
-  where
-    by : Contains (with_element name_cmp m x) x → (o : Ordering) → name_cmp z x ≡ o → Contains (choose o (z ∷ with_element name_cmp m x) (z ∷ m) (x ∷ z ∷ m)) x
-    by c Less e = in_tail z x (with_element name_cmp m x) c
-    by c Equal e = subst (λ (w : Name). Contains (w ∷ m) x) (sym (name_exact z x e)) (in_head x m)
-    by c Greater e = in_head x (z ∷ m)
-
-kept_elements : (ps m : List Name) (y : Name) → Contains m y → Contains (with_elements name_cmp m ps) y
-kept_elements [] m y c = c
-kept_elements (p ∷ ps) m y c = kept_elements ps (with_element name_cmp m p) y (kept_element m p y c)
-
-pub all_elements : (ps m : List Name) (y : Name) → Contains ps y → Contains (with_elements name_cmp m ps) y
-all_elements [] m y (k, lt, e) = absurd (omega (arith, lt))
-all_elements (p ∷ ps) m y (zero, lt, e) = kept_elements ps (with_element name_cmp m p) y (subst (Contains (with_element name_cmp m p)) e (new_element m p))
-all_elements (p ∷ ps) m y (suc k, lt, e) = all_elements ps (with_element name_cmp m p) y (k, omega (arith, lt), e)
-
-every_element : (P : Name → Type 0) (m : List Name) (x : Name) → AllByRecursion P m → P x → AllByRecursion P (with_element name_cmp m x)
-every_element P [] x all one = (one, tt)
-every_element P (z ∷ m) x all one = by (every_element P m x all.1 one) (name_cmp z x)
-  where
-    by : AllByRecursion P (with_element name_cmp m x) → (o : Ordering) → AllByRecursion P (choose o (z ∷ with_element name_cmp m x) (z ∷ m) (x ∷ z ∷ m))
-    by rest Less = (all.0, rest)
-    by rest Equal = all
-    by rest Greater = (one, all)
-
-every_elements : (P : Name → Type 0) (ps m : List Name) → AllByRecursion P m → AllByRecursion P ps → AllByRecursion P (with_elements name_cmp m ps)
-every_elements P [] m all new = all
-every_elements P (p ∷ ps) m all new = every_elements P ps (with_element name_cmp m p) (every_element P m p all new.0) new.1
-
 are_names : (t : Message) → HasPropLists t → length (names_of t) ≤ 32000 → AreNames (names_of t)
 unfolding NameOk
 are_names t h few =
-    let good : AllByRecursion NameOk (names_of t) = every_elements NameOk (names_in t) [] tt (message_names t h) in
+    let good : AllByRecursion NameOk (names_of t) = every_elements name_cmp NameOk (names_in t) [] tt (message_names t h) in
     record { few = few; forms = λ name c. (every_at NameOk (names_of t) name good c).0; units = λ name c. (every_at NameOk (names_of t) name good c).1 }
 
 -- ---- the storage of the names
@@ -196,7 +145,7 @@ written_read t root tree few parts e =
     let names : List Name = names_of t in
     let f : FileTree = files_of t in
     let h : FoundAs root.children f = found_as root.children f e in
-    let fine : messages.Fine names few GREATEST_LEVEL t = record { levels = tree.levels; lists = tree.lists; parts = parts; known = λ name c. all_elements (names_in t) [] name c } in
+    let fine : messages.Fine names few GREATEST_LEVEL t = record { levels = tree.levels; lists = tree.lists; parts = parts; known = λ name c. all_elements name_exact (names_in t) [] name c } in
     let d : Apart f = root_apart t few fine in
     let map_of : HasNameMap (name_streams root) names = map_there names root f h d (zero, omega arith, refl) in
     bind_from (pairs_of (name_streams root)) _ (pairs_from 0 names) (names_read (name_streams root) names (are_names t tree.lists few) map_of)
