@@ -76,6 +76,7 @@ pub mod TurnSteps
 pub mod Turns
 pub mod ViewLaws
 pub mod VisitLaws
+pub mod WithinLimits
 pub mod WrittenChildren
 pub mod WrittenFileNames
 pub mod WrittenFits

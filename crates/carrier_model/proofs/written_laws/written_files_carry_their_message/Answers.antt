@@ -8,6 +8,7 @@ use Rattle.carrier_model.specs.Trees.{IsTree}
 use Rattle.carrier_model.specs.WrittenMsg.{files_of}
 use Rattle.carrier_model.proofs.LaidSorted.{layouts-found}
 use Rattle.carrier_model.proofs.LaidStreamsFit.{streams-fit}
+use Rattle.carrier_model.proofs.WithinLimits.{within}
 use Rattle.carrier_model.proofs.WrittenFits.{may_be_written}
 use Rattle.carrier_model.proofs.WrittenTop.{canonical_carries, canonical_alone, canonical_faultless}
 use Rattle.carrier_model.proofs.written_laws.written_files_carry_their_message.Goals as goal
@@ -23,3 +24,6 @@ returns-clause-alone c = λ t other passed tree few parts short m. canonical_alo
 
 pub returns-clause-faultless : goal.returns-clause-faultless
 returns-clause-faultless c = λ t g tree few parts short e. canonical_faultless t g tree few parts (found t tree few parts short) short e
+
+pub returns-clause-within : goal.returns-clause-within
+returns-clause-within c = λ t b tree none. let w = within t b none in canonical_carries t tree w.0 w.1 (found t tree w.0 w.1 w.2)
