@@ -15,6 +15,7 @@ pub mod Elements
 pub mod Entities
 pub mod EntryLaws
 pub mod EnvelopeText
+pub mod FewParts
 pub mod Grammar
 pub mod HoldsLaws
 pub mod Ids
@@ -29,10 +30,10 @@ pub mod LaidFiles
 pub mod LaidHeader
 pub mod LaidHolds
 pub mod LaidLinks
-pub mod LaidSlots
-pub mod LaidSorted
 pub mod LaidLoaded
 pub mod LaidParts
+pub mod LaidSlots
+pub mod LaidSorted
 pub mod LaidStreams
 pub mod LaidStreamsFit
 pub mod LaidTables

@@ -25,8 +25,8 @@ pub use laws::{
     messages_are_exact,
 };
 pub use msg_laws::{
-    canonical_msg_carries_its_message, files_mean_one_message, files_of_a_message_may_be_written,
-    lists_of_storages_are_exact, messages_of_files_are_exact, msg_carriers_are_exact,
+    files_mean_one_message, files_of_a_message_may_be_written, lists_of_storages_are_exact,
+    messages_of_files_are_exact, messages_within_the_limits_have_few_parts, msg_carriers_are_exact,
     msg_carriers_are_trees, names_are_exact, numbered_storages_are_in_order,
     written_files_mean_the_message, written_lists_are_read, written_names_are_read,
 };

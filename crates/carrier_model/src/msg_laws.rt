@@ -1,13 +1,13 @@
 //! Laws about .msg files.
-ghost use Rattle.std.specs.Prelude.{◌≡◌, ◌≤◌, ℕ, Bool, List, [], length, IsTrue, IsPermutation, Ok, Err};
+ghost use Rattle.std.specs.Prelude.{◌≡◌, ◌≤◌, ℕ, Bool, List, [], length, IsTrue, IsPermutation, None, Ok, Err};
 ghost use Rattle.carrier_model.specs.Bytes.{AllBytes};
 ghost use Rattle.carrier_model.specs.FileTrees.{sorted};
 ghost use Rattle.carrier_model.specs.Files.{Children, Files};
 ghost use Rattle.carrier_model.specs.Holds.{AreApart, child_names};
 ghost use Rattle.carrier_model.specs.Sorted.{IsStrictlySorted};
-ghost use Rattle.carrier_model.specs.Layout.{msg_of};
-ghost use Rattle.carrier_model.specs.LayoutHolds.{bare, classless, MayBeWritten, HoldsLaidOut};
+ghost use Rattle.carrier_model.specs.LayoutHolds.{bare, classless, MayBeWritten};
 ghost use Rattle.carrier_model.specs.WrittenMsg.{files_of};
+ghost use Rattle.carrier_model.specs.Limits.{first_limit, msg_limits};
 ghost use Rattle.carrier_model.specs.MsgMessage.{numbered_in, number_cmp, in_order, files_meaning, file_meaning, FilesMean, MsgCarrier, MsgFault};
 ghost use Rattle.carrier_model.specs.MsgProps.{Part, Section, MsgProps, props_of};
 ghost use Rattle.carrier_model.specs.MsgValues.{Streams};
@@ -17,7 +17,7 @@ ghost use Rattle.carrier_model.specs.ReadBack.{AreNames, HasNameMap, HasList, Ha
 ghost use Rattle.carrier_model.specs.Sectors.{is_size};
 ghost use Rattle.carrier_model.specs.TnefMessage.{Meaning, Passed};
 ghost use Rattle.carrier_model.specs.Values.{Prop};
-ghost use Rattle.carrier_model.specs.Trail.{Fault, IsExact};
+ghost use Rattle.carrier_model.specs.Trail.{IsExact};
 ghost use Rattle.carrier_model.specs.Tree.{Message, names_of};
 ghost use Rattle.carrier_model.specs.Trees.{IsTree, IsPropList};
 
@@ -81,16 +81,14 @@ pub fn files_of_a_message_may_be_written()
     ensures { (t : Message) → IsTree t → length (names_of t) ≤ 32000 → HasFewParts t → StreamsFit (files_of t) → MayBeWritten (files_of t) }
 {}
 
-/// Where a compound file holds the files that are laid out in it, the .msg file of a message carries that message, with
-/// nothing passed over. It carries no other, and has no fault.
-pub fn canonical_msg_carries_its_message()
-    ensures carries { (t : Message) → IsTree t → length (names_of t) ≤ 32000 → HasFewParts t → HoldsLaidOut 512 (files_of t) → MsgCarrier 512 (msg_of t) t [] }
-    ensures alone { (t other : Message) (passed : List Passed) → IsTree t → length (names_of t) ≤ 32000 → HasFewParts t → HoldsLaidOut 512 (files_of t) → length (msg_of t) ≤ 268435456 → MsgCarrier 512 (msg_of t) other passed → (other ≡ t) × (passed ≡ []) }
-    ensures faultless { (t : Message) (g : Fault) → IsTree t → length (names_of t) ≤ 32000 → HasFewParts t → HoldsLaidOut 512 (files_of t) → length (msg_of t) ≤ 268435456 → MsgFault 512 (msg_of t) g → ⊥ }
-{}
-
 /// The recipients' storages, and the attachments', are put in order by rising number, each once: storages whose names
 /// differ have different numbers.
 pub fn numbered_storages_are_in_order()
     ensures { (prefix : List ℕ) (c : Children) → AreApart (child_names c) → IsStrictlySorted number_cmp (in_order (numbered_in prefix c)) × IsPermutation (numbered_in prefix c) (in_order (numbered_in prefix c)) }
+{}
+
+/// A message that passes no limit of a .msg file has as few names, recipients and attachments as the laws of its file
+/// ask for.
+pub fn messages_within_the_limits_have_few_parts()
+    ensures { (t : Message) → first_limit (msg_limits t) ≡ None → (length (names_of t) ≤ 32000) × HasFewParts t }
 {}
