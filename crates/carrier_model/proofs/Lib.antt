@@ -15,7 +15,6 @@ pub mod Elements
 pub mod Entities
 pub mod EntryLaws
 pub mod EnvelopeText
-pub mod FewParts
 pub mod Grammar
 pub mod HoldsLaws
 pub mod Ids

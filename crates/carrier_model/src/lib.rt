@@ -26,9 +26,9 @@ pub use laws::{
 };
 pub use msg_laws::{
     files_mean_one_message, files_of_a_message_may_be_written, lists_of_storages_are_exact,
-    messages_of_files_are_exact, messages_within_the_limits_have_few_parts, msg_carriers_are_exact,
-    msg_carriers_are_trees, names_are_exact, numbered_storages_are_in_order,
-    written_files_mean_the_message, written_lists_are_read, written_names_are_read,
+    messages_of_files_are_exact, msg_carriers_are_exact, msg_carriers_are_trees, names_are_exact,
+    numbered_storages_are_in_order, written_files_mean_the_message, written_lists_are_read,
+    written_names_are_read,
 };
 pub use msg_read_rows::{
     a_name_twice, chains_of_a_small_file, files_are_read_back, lists_of_one_entry, one_name_is_read,

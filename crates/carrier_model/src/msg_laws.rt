@@ -1,5 +1,5 @@
 //! Laws about .msg files.
-ghost use Rattle.std.specs.Prelude.{◌≡◌, ◌≤◌, ℕ, Bool, List, [], length, IsTrue, IsPermutation, None, Ok, Err};
+ghost use Rattle.std.specs.Prelude.{◌≡◌, ◌≤◌, ℕ, Bool, List, [], length, IsTrue, IsPermutation, Ok, Err};
 ghost use Rattle.carrier_model.specs.Bytes.{AllBytes};
 ghost use Rattle.carrier_model.specs.FileTrees.{sorted};
 ghost use Rattle.carrier_model.specs.Files.{Children, Files};
@@ -7,7 +7,6 @@ ghost use Rattle.carrier_model.specs.Holds.{AreApart, child_names};
 ghost use Rattle.carrier_model.specs.Sorted.{IsStrictlySorted};
 ghost use Rattle.carrier_model.specs.LayoutHolds.{bare, classless, MayBeWritten};
 ghost use Rattle.carrier_model.specs.WrittenMsg.{files_of};
-ghost use Rattle.carrier_model.specs.Limits.{first_limit, msg_limits};
 ghost use Rattle.carrier_model.specs.MsgMessage.{numbered_in, number_cmp, in_order, files_meaning, file_meaning, FilesMean, MsgCarrier, MsgFault};
 ghost use Rattle.carrier_model.specs.MsgProps.{Part, Section, MsgProps, props_of};
 ghost use Rattle.carrier_model.specs.MsgValues.{Streams};
@@ -85,10 +84,4 @@ pub fn files_of_a_message_may_be_written()
 /// differ have different numbers.
 pub fn numbered_storages_are_in_order()
     ensures { (prefix : List ℕ) (c : Children) → AreApart (child_names c) → IsStrictlySorted number_cmp (in_order (numbered_in prefix c)) × IsPermutation (numbered_in prefix c) (in_order (numbered_in prefix c)) }
-{}
-
-/// A message that passes no limit of a .msg file has as few names, recipients and attachments as the laws of its file
-/// ask for.
-pub fn messages_within_the_limits_have_few_parts()
-    ensures { (t : Message) → first_limit (msg_limits t) ≡ None → (length (names_of t) ≤ 32000) × HasFewParts t }
 {}
