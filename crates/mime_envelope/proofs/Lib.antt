@@ -1,6 +1,7 @@
 pub mod Canonical
 pub mod Characters
 pub mod Coded
+pub mod Kept
 pub mod Cuts
 pub mod Quoted
 pub mod Readings

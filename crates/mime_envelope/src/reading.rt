@@ -1,5 +1,6 @@
 //! Reading an envelope.
-ghost use Rattle.std.specs.Prelude.{◌≡◌, ℕ, ◌+◌, ◌<◌, ◌^◌, List, length, not, filter, IfOk, IsTrue, None};
+ghost use Rattle.std.specs.Prelude.{◌≡◌, ℕ, ◌+◌, ◌<◌, ◌≤◌, ◌^◌, List, length, not, filter, IfOk, IsTrue, None};
+ghost use Rattle.std.specs.List.{prefix_len};
 ghost use Rattle.carrier_io.specs.Reads.{Gives, Reads};
 ghost use Rattle.carrier_io.specs.Reasons.{refusal};
 ghost use Rattle.carrier_model.specs.Envelope as envelope;
@@ -111,15 +112,30 @@ fn test_characters(at: u64, body: &[u8]) -> Result<(), Fault>
     Ok(())
 }
 
+/// How many bytes stand before the first that is skipped, or in all.
+fn count_kept(bytes: &[u8]) -> usize
+    ensures value { result ≡ prefix_len (λ c. not (envelope.is_skipped c)) bytes.now }
+    ensures within { result ≤ length bytes.now }
+{
+    for (i, byte) in bytes.iter().enumerate() {
+        if is_skipped(*byte) {
+            return i;
+        }
+    }
+    bytes.len()
+}
+
 /// A body without what is skipped.
 fn characters(alloc: Global, body: &[u8]) -> Result<Vec<u8>, NoMemory>
     ensures { IfOk result (λ v. v.items ≡ envelope.characters body.now) }
 {
     let mut text = Vec::with_capacity(alloc, body.len())?;
-    for byte in body {
-        if !is_skipped(*byte) {
-            text.push(*byte)?;
-        }
+    let mut rest = body;
+    while !rest.is_empty() {
+        let (kept, after) = rest.split_at(count_kept(rest));
+        text.extend_from_slice(kept)?;
+        let (_, behind) = after.split_at(after.len().min(1));
+        rest = behind;
     }
     Ok(text)
 }
