@@ -86,9 +86,6 @@ fit-table p slots is small =
 
 -- ---- the list of the table's sectors
 
-next_word : Plan → ℕ → ℕ
-next_word p k = cond (eqb (k + 1) p.difat) end_word (p.fat + k + 1)
-
 listed-length : (p : Plan) (k : ℕ) → length (range_with_len (109 + 127 * k) (min 127 (p.fat - (109 + 127 * k)))) ≡ min 127 (p.fat - (109 + 127 * k))
 listed-length p k = length-range_with_len (109 + 127 * k) (min 127 (p.fat - (109 + 127 * k)))
 

@@ -119,9 +119,6 @@ pub entry-place : (s n id : ℕ) → id < 4 * n → entry_place 512 (range_with_
 entry-place s n id below = run-place s n (128 * id) (omega (arith, below))
 
 -- the root's entry
-pub root_start : Plan → ℕ
-root_start p = start_or_end p.sizes.mini_sectors (mini_stream_start p)
-
 pub root-lies : (p : Plan) (root : Slot) (others : List Slot) (b : List ℕ) → AreParts p (root ∷ others) b → Lies b (sector_start 512 (directory_start p)) (slot_bytes root (start_or_end p.sizes.mini_sectors (mini_stream_start p)) (64 * p.sizes.mini_sectors))
 root-lies p root others b is =
     let at = sector_start 512 (directory_start p) in
