@@ -1,7 +1,7 @@
 -- Bytes are accepted as one message, or refused for one fault, for each job that takes them as they are.
-use Rattle.std.proofs.Common.{◌≡◌, ◌⊎◌, inl, inr, ℕ, ◌≤◌, true, false, List, length, sym, ◌∙◌, refl, arith}
+use Rattle.std.proofs.Common.{◌≡◌, inl, inr, ℕ, ◌≤◌, true, false, List, length, sym, ◌∙◌, refl, arith}
 use Rattle.std.specs.Prelude.{Bool}
-use Rattle.carrier_model.specs.Acceptance.{SECTOR, MessageBy, CarriesMessage, FaultBy, MessageFault, JobAccepts, JobFault, TakesFor, FaultFor}
+use Rattle.carrier_model.specs.Acceptance.{SECTOR, MessageBy, FaultBy, JobAccepts, JobFault, TakesFor, FaultFor}
 use Rattle.carrier_model.specs.Commands.{Job, to_msg, to_tnef, wrap}
 use Rattle.carrier_model.specs.Jobs.{is_signed, is_compound}
 use Rattle.carrier_model.specs.Reasons.{NOT_A_CARRIER}

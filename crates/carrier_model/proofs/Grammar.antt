@@ -1,8 +1,8 @@
 -- A form's bytes mean one thing, have one first fault, and not both.
-use Rattle.std.proofs.Common.{◌≡◌, ◌⊎◌, inl, inr, ℕ, zero, suc, ◌+◌, ◌<◌, ◌≤◌, Bool, true, false, List, [], ◌∷◌, ◌++◌, length, take, drop, refl, sym, ap, subst, ◌∙◌, append_assoc, arith}
-use Rattle.std.proofs.lemmas.List.{length-append, append_cancel_left, take_at, drop_at, append-nil, take-append-drop, length-take, length-drop}
+use Rattle.std.proofs.Common.{◌≡◌, ◌⊎◌, inl, inr, ℕ, zero, suc, ◌+◌, Bool, true, false, List, [], ◌∷◌, ◌++◌, length, take, refl, sym, ap, subst, ◌∙◌, append_assoc, arith}
+use Rattle.std.proofs.lemmas.List.{length-append, append_cancel_left, take_at}
 use Rattle.carrier_model.specs.Trail.{Fault, IsExact}
-use Rattle.carrier_model.specs.Grammar.{Form, Begins, Means, gives, field, InTurn, FailsNext, and_then, FailsTest, such, placed, choice, repeat, Whole, inside}
+use Rattle.carrier_model.specs.Grammar.{Form, Means, gives, field, InTurn, FailsNext, and_then, FailsTest, such, placed, choice, repeat, Whole, inside}
 
 pub record Lawful {X : Type 0} (f : Form X) : Type 0 where
   pub one : (at : ℕ) (a b : X) (s t x y : List ℕ) → f.spells at a s → f.spells at b t → s ++ x ≡ t ++ y → (b ≡ a) × (t ≡ s)

@@ -1,5 +1,5 @@
 -- The place of a key and a kind in a sorted property list.
-use Rattle.std.proofs.Common.{◌≡◌, ℕ, ◌<◌, List, length, get_or, Result, Ok, Err, IfOk, IfErr, refl, sym, ap, ◌∙◌, inl, inr, arith}
+use Rattle.std.proofs.Common.{◌≡◌, ℕ, List, get_or, Result, Ok, Err, IfOk, IfErr, refl, sym, ap, ◌∙◌, inl, inr}
 use Rattle.std.proofs.lemmas.Bool.{cases_lt}
 use Rattle.std.proofs.lemmas.Map.Lookups.{exact_unsigned}
 use Rattle.std.proofs.lemmas.Option.{slice_get-get_or}
@@ -11,7 +11,7 @@ use Rattle.std.specs.declared.cmp.Ordering.TheVariants.{Less, Equal, Greater}
 use Rattle.carrier_model.specs.Keys.{Key, key_cmp}
 use Rattle.carrier_model.specs.Values.{Prop, kind_of, prop_cmp, with_pair, HasPair}
 use Rattle.carrier_model.specs.Places.{IsGap, IsPlace}
-use Rattle.carrier_model.proofs.Orders.{both_equal, key_exact, key_total, prop_total}
+use Rattle.carrier_model.proofs.Orders.{both_equal, key_exact, prop_total}
 
 -- each element is equal to itself by a total order
 pub equal_to_itself : {A : Type 0} {R : A → A → Ordering} → IsTotalOrder R → (x : A) → R x x ≡ Equal

@@ -1,8 +1,8 @@
 -- Reading form after form: what is left of a form decides what the form reads.
-use Rattle.std.proofs.Common.{◌≡◌, ◌⊎◌, inl, inr, ℕ, zero, suc, ◌+◌, ◌<◌, ◌≤◌, Bool, true, false, List, [], ◌∷◌, ◌++◌, length, take, drop, refl, sym, ap, subst, ◌∙◌, append_assoc, arith}
-use Rattle.std.proofs.lemmas.List.{length-append, take-append-drop, length-take, append-nil}
+use Rattle.std.proofs.Common.{◌≡◌, inl, inr, ℕ, suc, ◌+◌, ◌≤◌, Bool, true, false, List, [], ◌∷◌, ◌++◌, length, take, drop, refl, sym, ap, subst, ◌∙◌, append_assoc, arith}
+use Rattle.std.proofs.lemmas.List.{length-append, take-append-drop, length-take}
 use Rattle.carrier_model.specs.Trail.{Fault}
-use Rattle.carrier_model.specs.Grammar.{Form, Begins, Spans, Means, gives, field, InTurn, FailsNext, and_then, FailsTest, such, placed, choice, repeat, Whole, inside}
+use Rattle.carrier_model.specs.Grammar.{Form, Spans, gives, field, and_then, such, placed, repeat}
 
 -- where a text ends
 span_end : {X : Type 0} (f : Form X) (at : ℕ) (bytes : List ℕ) (x : X) (after : ℕ) (rest : List ℕ) (s : Spans f at bytes x after rest) → after ≡ at + length s.begins.text

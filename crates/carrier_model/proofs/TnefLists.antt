@@ -1,8 +1,8 @@
 -- A property list is read one way.
-use Rattle.std.proofs.Common.{◌≡◌, ◌⊎◌, inl, inr, ℕ, zero, suc, ◌+◌, ◌<◌, ◌≤◌, Bool, true, false, List, [], ◌∷◌, ◌++◌, length, refl, sym, ap}
-use Rattle.carrier_model.specs.Grammar.{Form, gives, field, and_then, such, placed, choice, repeat}
+use Rattle.std.proofs.Common.{ℕ, Bool, false, List, []}
+use Rattle.carrier_model.specs.Grammar.{Form, gives, and_then, such}
 use Rattle.carrier_model.specs.Reasons.{LIST_TRUNCATED, UNKNOWN_LIST_TYPE, BAD_NAME_KIND, BAD_NAME_SIZE, BAD_COUNT, BAD_SIZE, DUPLICATE_LIST_PROPERTY}
-use Rattle.carrier_model.specs.TnefLists.{le_number, pad4, raw, word, padded, name_size, name_units, name_text, name_number, name, key, is_size, size, sized, text, one, many, numbers_of, value, tag, object, property, described, is_new, any_item, item, items, list_of, prop_list, recipient_lists, PropList, Item}
+use Rattle.carrier_model.specs.TnefLists.{le_number, pad4, raw, word, padded, name_size, name_units, name_text, name_number, name, key, size, sized, text, one, many, numbers_of, value, tag, object, property, described, any_item, item, items, list_of, prop_list, recipient_lists, Item}
 use Rattle.carrier_model.proofs.Grammar.{Lawful, gives_lawful, field_lawful, then_lawful, such_lawful, placed_lawful, choice_lawful, repeat_lawful}
 
 -- a form, and a meaning from what it means

@@ -1,12 +1,12 @@
 -- A TNEF stream means one message, or has one first fault, and not both.
-use Rattle.std.proofs.Common.{◌≡◌, ◌⊎◌, inl, inr, ℕ, zero, suc, ◌+◌, Bool, true, false, List, [], ◌∷◌, ◌++◌, take, drop, Option, Some, None, refl, sym, ap, subst, ◌∙◌, append_assoc}
+use Rattle.std.proofs.Common.{◌≡◌, inl, inr, ℕ, zero, suc, ◌+◌, true, false, List, [], ◌∷◌, ◌++◌, drop, Option, Some, None, refl, sym, subst, ◌∙◌, append_assoc}
 use Rattle.std.specs.Prelude.{zip}
 use Rattle.std.proofs.lemmas.List.{append-nil}
-use Rattle.carrier_model.specs.Trail.{Fault, Test, first_fault, IsExact}
-use Rattle.carrier_model.specs.Attributes.{Attr, Attrs, AttrsFault}
-use Rattle.carrier_model.specs.Grammar.{Form, Means, Whole}
-use Rattle.carrier_model.specs.TnefLists.{PropList, prop_list}
-use Rattle.carrier_model.specs.TnefMessage.{Meaning, Part, inner_of, content, place_tests, Stands, AttrFails, AllStand, FailsBehind, meaning_by, StreamMeans, MessageFails, stream, interface_tests, object_with, behind_interface, too_deep, message_within}
+use Rattle.carrier_model.specs.Trail.{Fault, first_fault}
+use Rattle.carrier_model.specs.Attributes.{Attr}
+use Rattle.carrier_model.specs.Grammar.{Whole}
+use Rattle.carrier_model.specs.TnefLists.{prop_list}
+use Rattle.carrier_model.specs.TnefMessage.{Meaning, Part, inner_of, content, place_tests, Stands, AttrFails, AllStand, meaning_by, StreamMeans, stream, interface_tests, object_with, behind_interface, too_deep, message_within}
 use Rattle.carrier_model.proofs.Grammar.{Lawful, gives_lawful, then_lawful, choice_lawful, inside_lawful, means_exact, IsExactWhole}
 use Rattle.carrier_model.proofs.TnefLists.{seen_lawful, prop_list_lawful, recipient_lists_lawful}
 use Rattle.carrier_model.proofs.Stream.{attrs_exact}

@@ -1,12 +1,12 @@
 -- The header of a mail entity, and the parts of a multipart. Source: RFC 2045, section 5, and RFC 2046, section 5.1.1.
 -- An entity is a range of bytes: header lines up to the first empty line, then its body. `at` is the offset of the
 -- first byte of the lines that are given.
-use Rattle.std.specs.Prelude.{ℕ, zero, suc, ◌+◌, ◌-◌, ◌==◌, Bool, true, false, not, if◌then◌else◌, List, [], ◌∷◌, ◌++◌, ◌||◌, ◌&&◌, length, take, drop, codes, Option, Some, None, Result, Ok, Err, nat_eq, nat_le}
+use Rattle.std.specs.Prelude.{ℕ, zero, suc, ◌+◌, ◌-◌, ◌==◌, Bool, false, not, if◌then◌else◌, List, [], ◌∷◌, ◌++◌, ◌||◌, ◌&&◌, length, take, drop, codes, Option, Some, None, Result, Ok, Err, nat_eq, nat_le}
 use Rattle.std.specs.List.{prefix_len, ends_with, concat}
 use Rattle.std.specs.Str.{str_eq_ignore_ascii_case}
 use Rattle.carrier_model.specs.Reasons.{BAD_HEADER_LINE}
 use Rattle.carrier_model.specs.Trail.{Fault}
-use Rattle.carrier_model.specs.Lines.{text_of, is_blank, trimmed, before, behind, has, is_word, is_mark, size_before}
+use Rattle.carrier_model.specs.Lines.{text_of, is_blank, trimmed, before, behind, has, is_word, is_mark}
 
 -- a line with nothing before its end
 abbrev pub is_empty : List ℕ → Bool

@@ -1,5 +1,5 @@
 -- What an envelope carries. Source: RFC 2045, section 6, and RFC 2046, section 5.1.
-use Rattle.std.specs.Prelude.{◌≡◌, ◌⊎◌, ℕ, zero, suc, ◌+◌, ◌≤◌, ◌==◌, Bool, true, false, not, if◌then◌else◌, List, [], ◌∷◌, ◌++◌, ◌||◌, ◌&&◌, length, codes, Option, Some, None, Result, Ok, Err, filter, nat_le}
+use Rattle.std.specs.Prelude.{◌≡◌, ◌⊎◌, ℕ, zero, suc, ◌+◌, ◌==◌, Bool, true, not, if◌then◌else◌, List, [], ◌∷◌, ◌||◌, ◌&&◌, length, codes, Option, Some, None, Result, Ok, Err, filter, nat_le}
 use Rattle.std.specs.List.{concat, list_any}
 use Rattle.carrier_model.specs.Base64.{base64_text}
 use Rattle.carrier_model.specs.Bytes.{AllBytes}

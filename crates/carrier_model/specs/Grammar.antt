@@ -1,6 +1,6 @@
 -- Grammars of bytes. A form says which bytes spell which meaning at a place, and which fault comes first where the
 -- bytes begin with no spelling. A place is the offset in the whole input.
-use Rattle.std.specs.Prelude.{◌≡◌, ◌⊎◌, ℕ, zero, suc, ◌+◌, ◌*◌, ◌-◌, ◌%◌, ◌<◌, Bool, true, false, List, [], ◌∷◌, ◌++◌, length}
+use Rattle.std.specs.Prelude.{◌≡◌, ◌⊎◌, ℕ, zero, suc, ◌+◌, ◌<◌, Bool, true, false, List, [], ◌∷◌, ◌++◌, length}
 use Rattle.carrier_model.specs.Trail.{Fault}
 
 pub record Form (X : Type 0) : Type 1 where

@@ -1,5 +1,5 @@
 -- The one compound file that a tree of storages and streams is written as, for sectors of z bytes. [MS-CFB 2.2 to 2.6]
-use Rattle.std.specs.Prelude.{ℕ, zero, suc, ◌+◌, ◌-◌, ◌*◌, ◌/◌, ◌%◌, ◌==◌, ◌&&◌, Bool, if◌then◌else◌, List, [], ◌∷◌, ◌++◌, length, replicate, take, drop, map, filter, get_or, min, nat_lt, nat_le, codes}
+use Rattle.std.specs.Prelude.{ℕ, zero, suc, ◌+◌, ◌-◌, ◌*◌, ◌/◌, ◌==◌, ◌&&◌, Bool, if◌then◌else◌, List, [], ◌∷◌, ◌++◌, length, replicate, take, drop, map, filter, get_or, min, nat_lt, nat_le, codes}
 use Rattle.std.specs.Int.{div_ceil}
 use Rattle.std.specs.List.{flat_map, range_with_len, sum}
 use Rattle.carrier_model.specs.Bytes.{le16, le32}

@@ -1,5 +1,5 @@
 -- How a command ends, and the one line that tells it.
-use Rattle.std.specs.Prelude.{ℕ, List, [], ◌∷◌, ◌++◌, unwrap_or, codes, decimal}
+use Rattle.std.specs.Prelude.{ℕ, List, [], ◌++◌, unwrap_or, codes, decimal}
 use Rattle.carrier_model.specs.Limits.{Limit, too_many_names, too_many_recipients, too_many_attachments, too_large}
 use Rattle.carrier_model.specs.ReasonNames.{reason_name}
 use Rattle.carrier_model.specs.TreeTexts.{line, counted}

@@ -1,6 +1,6 @@
 -- A tree made from a number, with something of each sort: properties with ids and with names, recipients, attachments
 -- with data, and messages in messages.
-use Rattle.std.specs.Prelude.{ℕ, zero, suc, ◌+◌, ◌-◌, ◌*◌, ◌%◌, List, [], ◌∷◌, ◌++◌, length, map, replicate, codes, decimal}
+use Rattle.std.specs.Prelude.{ℕ, zero, suc, ◌+◌, ◌*◌, ◌%◌, List, [], ◌∷◌, ◌++◌, length, map, replicate, codes, decimal}
 use Rattle.std.specs.List.{flat_map, range_with_len}
 use Rattle.carrier_model.specs.Bytes.{le32, sum16}
 use Rattle.carrier_model.specs.EnvelopeText.{envelope_of}

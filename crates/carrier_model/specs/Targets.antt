@@ -1,5 +1,5 @@
 -- What each job writes, and the limits of what it writes. [MS-OXMSG 2.2, MS-OXTNEF 2.1.3, RFC 2045, MS-CFB 2.2]
-use Rattle.std.specs.Prelude.{◌≡◌, ℕ, List, [], ◌∷◌, ◌++◌, length, nat_lt, Option}
+use Rattle.std.specs.Prelude.{◌≡◌, ℕ, List, [], ◌++◌, length, nat_lt, Option}
 use Rattle.carrier_model.specs.Commands.{Job, to_msg, to_tnef, wrap, unwrap}
 use Rattle.carrier_model.specs.Envelope.{Envelope}
 use Rattle.carrier_model.specs.EnvelopeText.{envelope_of}

@@ -1,6 +1,6 @@
 -- The one TNEF stream that a message is written as: attributes and lists in a fixed order, padding zero, each text
 -- with its null. [MS-OXTNEF 2.1.3, 2.2]
-use Rattle.std.specs.Prelude.{ℕ, ◌+◌, ◌-◌, ◌/◌, ◌%◌, ◌==◌, ◌&&◌, not, Bool, true, false, if◌then◌else◌, List, [], ◌∷◌, ◌++◌, length, replicate, nat_lt, Option, Some, None, filter, find, unwrap_or}
+use Rattle.std.specs.Prelude.{ℕ, ◌+◌, ◌-◌, ◌==◌, ◌&&◌, not, Bool, true, false, if◌then◌else◌, List, [], ◌∷◌, ◌++◌, length, replicate, nat_lt, Option, Some, None, filter, find, unwrap_or}
 use Rattle.std.specs.Int.{w64, to_le_bytes}
 use Rattle.std.specs.Option.{option_map}
 use Rattle.std.specs.List.{flat_map, position_from}

@@ -1,6 +1,6 @@
 -- Property lists of a TNEF stream: a count, and so many properties, each a tag, perhaps a name, and a value by its
 -- type. [MS-OXTNEF 2.1.3.4, MS-OXCDATA 2.11]
-use Rattle.std.specs.Prelude.{◌≡◌, ℕ, zero, suc, ◌+◌, ◌-◌, ◌*◌, ◌/◌, ◌%◌, ◌<◌, ◌==◌, ◌&&◌, ◌||◌, not, Bool, true, false, if◌then◌else◌, List, [], ◌∷◌, ◌++◌, length, take, drop, nat_lt, nat_le, Option, Some, None, unwrap_or, filter_map, map}
+use Rattle.std.specs.Prelude.{ℕ, ◌+◌, ◌-◌, ◌*◌, ◌/◌, ◌%◌, ◌==◌, ◌&&◌, ◌||◌, not, Bool, true, false, if◌then◌else◌, List, [], ◌∷◌, length, take, drop, nat_lt, nat_le, Option, Some, None, unwrap_or, filter_map, map}
 use Rattle.std.specs.List.{list_any}
 use Rattle.carrier_model.specs.Reasons.{LIST_TRUNCATED, UNKNOWN_LIST_TYPE, BAD_NAME_KIND, BAD_NAME_SIZE, BAD_COUNT, BAD_SIZE, DUPLICATE_LIST_PROPERTY}
 use Rattle.carrier_model.specs.Grammar.{Form, gives, field, and_then, such, placed, choice, repeat}

@@ -1,6 +1,5 @@
 -- The message that a TNEF stream means. [MS-OXTNEF 2.1.3, 2.2]
 use Rattle.std.specs.Prelude.{◌≡◌, ◌⊎◌, ℕ, zero, suc, ◌+◌, ◌==◌, ◌&&◌, ◌||◌, not, Bool, true, false, if◌then◌else◌, List, [], ◌∷◌, ◌++◌, map, reverse, take, drop, Option, Some, None, filter, filter_map, take_while, zip, bytes_eq}
-use Rattle.std.specs.Option.{option_map}
 use Rattle.std.specs.List.{flat_map, list_any}
 use Rattle.carrier_model.specs.Reasons.{TOO_DEEP, OLE_STORAGE, NO_ATTACHMENT, DOUBLE_ATTRIBUTE, BAD_INTERFACE}
 use Rattle.carrier_model.specs.Trail.{Fault, Test, test, first_fault}

@@ -1,6 +1,6 @@
 -- The texts of values, as ASCII characters: numbers by their kind, texts in quotes, bytes by their number and the first
 -- of them. The kinds are those of MS-OXCDATA, section 2.11.1.
-use Rattle.std.specs.Prelude.{ℕ, ◌+◌, ◌-◌, ◌*◌, ◌^◌, ◌==◌, ◌||◌, nat_lt, List, [], ◌∷◌, ◌++◌, length, take, map, if◌then◌else◌, codes, decimal}
+use Rattle.std.specs.Prelude.{ℕ, ◌-◌, ◌*◌, ◌^◌, ◌==◌, ◌||◌, nat_lt, List, [], ◌∷◌, ◌++◌, length, take, map, if◌then◌else◌, codes, decimal}
 use Rattle.std.specs.List.{flat_map}
 use Rattle.carrier_model.specs.KeyTexts.{lower, upper, hex_digits, guid_text, is_plain, quoted_text}
 use Rattle.carrier_model.specs.TnefLists.{units_of}

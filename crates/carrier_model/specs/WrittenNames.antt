@@ -1,6 +1,6 @@
 -- The name map of a .msg file, as it is written: the k-th name in name order has the property index k, from 0.
 -- [MS-OXMSG 2.2.3]
-use Rattle.std.specs.Prelude.{ℕ, zero, suc, ◌+◌, ◌*◌, ◌/◌, ◌%◌, ◌==◌, ◌||◌, not, if◌then◌else◌, Bool, false, true, List, [], ◌∷◌, ◌++◌, length, replicate, map, zip, filter, bit_xor, unwrap_or, codes, bytes_eq}
+use Rattle.std.specs.Prelude.{ℕ, ◌+◌, ◌*◌, ◌/◌, ◌%◌, ◌==◌, ◌||◌, not, if◌then◌else◌, Bool, false, true, List, [], ◌∷◌, ◌++◌, length, replicate, map, filter, bit_xor, unwrap_or, codes, bytes_eq}
 use Rattle.std.specs.Cmp.Lexicographic.{slice_cmp}
 use Rattle.std.specs.Ordering.{nat_cmp}
 use Rattle.std.specs.List.{flat_map, position_from, range_with_len}
