@@ -1,0 +1,114 @@
+#!/usr/bin/env python3
+"""Times the built program on large inputs, beside sha256sum on the same file.
+
+    cd crates/outlook_cli && rt run; cd ../..     builds crates/outlook_cli/out/outlook_cli
+    bench/bench.py                                all cases; the inputs take up to 1 GB in a temporary folder
+    bench/bench.py --scale 8 --runs 1 named       an eighth of each size, one run, the cases with 'named' in their names
+    bench/bench.py --list                         the cases
+
+A line of a case has the processor time of the program (user and system, the least of the runs), that time over the
+one of sha256sum, the peak of memory in MiB, and the exit code. Pairs of cases of which one has half the size of the
+other, and those that differ in order, are set against each other at the end. A case whose command or input the program
+does not know yet is marked so. Exit code 3 says that the result passes a limit of the target: so does to-tnef where
+there are more than 32,768 names, after all of the input was read.
+"""
+
+import argparse
+import os
+import pathlib
+import subprocess
+import tempfile
+
+import inputs
+
+HERE = pathlib.Path(__file__).resolve().parent
+PROGRAM = HERE.parent / "crates/outlook_cli/out/outlook_cli"
+MIB = 1 << 20
+
+
+def cases(scale):
+    """Name, command and maker of the input of each case."""
+    large, half, names, entries = 128 * MIB // scale, 500_000 // scale, 300_000 // scale, 200_000 // scale
+    yield "unnamed", "to-tnef", lambda: inputs.tnef_integers(32_000)
+    yield "attachment", "to-tnef", lambda: inputs.tnef_attachment(large)
+    for order in ("rising", "falling", "random"):
+        yield f"named-{order}-half", "to-tnef", lambda order=order: inputs.tnef_named(half // 2, order)
+        yield f"named-{order}", "to-tnef", lambda order=order: inputs.tnef_named(half, order)
+    yield "names-half", "to-tnef", lambda: inputs.tnef_recipients(names // 200, 100)
+    yield "names", "to-tnef", lambda: inputs.tnef_recipients(names // 100, 100)
+    yield "show-attachment", "show", lambda: inputs.tnef_attachment(large)
+    yield "to-msg-attachment", "to-msg", lambda: inputs.tnef_attachment(large)
+    yield "wrap", "wrap", lambda: inputs.tnef_attachment(large)
+    yield "unwrap", "unwrap", lambda: inputs.envelope(inputs.tnef_attachment(large))
+    yield "stream-in-order", "to-tnef", lambda: inputs.msg_stream(large, False)
+    yield "stream-shuffled", "to-tnef", lambda: inputs.msg_stream(large, True)
+    yield "entries-row", "to-tnef", lambda: inputs.msg_entries(entries, True)
+    yield "entries-row-half", "to-tnef", lambda: inputs.msg_entries(entries // 2, True)
+    yield "entries-storage", "to-tnef", lambda: inputs.msg_entries(entries, False)
+    yield "entries-storage-half", "to-tnef", lambda: inputs.msg_entries(entries // 2, False)
+
+
+PAIRS = [
+    ("named-rising", "named-rising-half"), ("named-falling", "named-falling-half"),
+    ("named-random", "named-random-half"), ("named-falling", "named-rising"), ("named-random", "named-rising"),
+    ("names", "names-half"), ("stream-shuffled", "stream-in-order"), ("entries-row", "entries-row-half"),
+    ("entries-storage", "entries-storage-half"),
+]
+
+
+def run(words, source):
+    """Processor seconds, peak of memory in MiB, exit code and report of a run."""
+    with open(source, "rb") as given, open(os.devnull, "wb") as thrown:
+        child = subprocess.Popen(words, stdin=given, stdout=thrown, stderr=subprocess.PIPE)
+        report = child.stderr.read()
+        _, status, usage = os.wait4(child.pid, 0)
+        child.returncode = os.waitstatus_to_exitcode(status)
+        child.stderr.close()
+    return usage.ru_utime + usage.ru_stime, usage.ru_maxrss / 1024, child.returncode, report
+
+
+def measured(words, source, runs):
+    best = min((run(words, source) for _ in range(runs)), key=lambda r: r[0])
+    return best
+
+
+def is_unknown(code, report):
+    return code == 2 or report.startswith((b"usage", b"refused 2 NotBuilt"))
+
+
+def main():
+    parser = argparse.ArgumentParser(description=__doc__.splitlines()[0])
+    parser.add_argument("words", nargs="*", help="only the cases with one of these in their names")
+    parser.add_argument("--program", default=PROGRAM)
+    parser.add_argument("--runs", type=int, default=3)
+    parser.add_argument("--scale", type=int, default=1, help="divides the sizes")
+    parser.add_argument("--list", action="store_true")
+    chosen = parser.parse_args()
+    wanted = [c for c in cases(chosen.scale) if not chosen.words or any(w in c[0] for w in chosen.words)]
+    if chosen.list:
+        for name, command, _ in wanted:
+            print(f"{name:22} {command}")
+        return
+    times = {}
+    print(f"{'case':22} {'command':8} {'MiB in':>7} {'seconds':>8} {'sha256':>7} {'ratio':>6} {'peak':>6} code")
+    with tempfile.TemporaryDirectory() as folder:
+        source = pathlib.Path(folder) / "input"
+        for name, command, make in wanted:
+            source.write_bytes(make())
+            size = source.stat().st_size / MIB
+            code, report = run([chosen.program, command], source)[2:]
+            if is_unknown(code, report):
+                print(f"{name:22} {command:8} {size:7.1f} not known yet: {report.decode(errors='replace').strip()[:40]}")
+                continue
+            seconds, peak, code, _ = measured([chosen.program, command], source, chosen.runs)
+            other = measured(["sha256sum"], source, chosen.runs)[0]
+            times[name] = seconds
+            ratio = seconds / other if other else 0
+            print(f"{name:22} {command:8} {size:7.1f} {seconds:8.3f} {other:7.3f} {ratio:6.2f} {peak:6.0f} {code}")
+    for one, other in PAIRS:
+        if times.get(one) and times.get(other):
+            print(f"{one} / {other}: {times[one] / times[other]:.2f}")
+
+
+if __name__ == "__main__":
+    main()

@@ -1,0 +1,266 @@
+"""Large inputs for bench.py: TNEF streams (MS-OXTNEF), envelopes (RFC 2045) and compound files (MS-CFB, MS-OXMSG)."""
+
+import base64
+import itertools
+import random
+import struct
+
+SET = bytes(range(16))
+SIGNATURE = bytes.fromhex("789f3e220100")
+FREE, END, FAT, DIFAT, NONE = 0xFFFFFFFF, 0xFFFFFFFE, 0xFFFFFFFD, 0xFFFFFFFC, 0xFFFFFFFF
+
+
+def noise(size):
+    """Bytes that do not repeat soon, made fast."""
+    block = random.Random(1).randbytes(1 << 20)
+    return (block * (size // len(block) + 1))[:size]
+
+
+# ---- TNEF
+
+def attribute(level, number, value):
+    return struct.pack("<BII", level, number, len(value)) + value + struct.pack("<H", sum(value) % 65536)
+
+
+def tnef(*attributes):
+    return SIGNATURE + b"".join(attributes)
+
+
+def listed(properties):
+    return struct.pack("<I", len(properties)) + b"".join(properties)
+
+
+def integer(number, value):
+    return struct.pack("<HHI", 3, number, value)
+
+
+def named(number, value, name_set=SET):
+    return struct.pack("<HH16sIII", 3, 0x8000, name_set, 0, number, value)
+
+
+def binary(number, value):
+    return struct.pack("<HHII", 0x0102, number, 1, len(value)) + value + bytes(-len(value) % 4)
+
+
+def tnef_integers(count):
+    """Properties without names, as many as one list of unnamed properties can have in one kind."""
+    return tnef(attribute(1, 0x00069003, listed([integer(k + 1, k) for k in range(count)])))
+
+
+def tnef_attachment(size):
+    """One attachment with a value of so many bytes."""
+    rendering = struct.pack("<HIHHI", 1, 0xFFFFFFFF, 0, 0, 0)
+    return tnef(
+        attribute(1, 0x00069003, listed([integer(0x0017, 1)])),
+        attribute(2, 0x00069002, rendering),
+        attribute(2, 0x00069005, listed([binary(0x3701, noise(size))])),
+    )
+
+
+def tnef_named(count, order):
+    """One list of named properties, in rising, falling or random order of their names."""
+    numbers = list(range(count))
+    if order == "falling":
+        numbers.reverse()
+    if order == "random":
+        random.Random(2).shuffle(numbers)
+    return tnef(attribute(1, 0x00069003, listed([named(n, k) for k, n in enumerate(numbers)])))
+
+
+def tnef_recipients(rows, each):
+    """Recipients with names of their own, in random order over all of them."""
+    numbers = list(range(rows * each))
+    random.Random(3).shuffle(numbers)
+    parts = [struct.pack("<I", rows)]
+    for row in range(rows):
+        parts.append(listed([named(n, n) for n in numbers[row * each:(row + 1) * each]]))
+    return tnef(attribute(1, 0x00069004, b"".join(parts)), attribute(1, 0x00069003, listed([integer(0x0017, 1)])))
+
+
+# ---- envelopes
+
+def envelope(stream):
+    head = (
+        b"MIME-Version: 1.0\r\nContent-Type: application/ms-tnef; name=\"winmail.dat\"\r\n"
+        b"Content-Transfer-Encoding: base64\r\nContent-Disposition: attachment; filename=\"winmail.dat\"\r\n\r\n"
+    )
+    lines = (base64.b64encode(stream[at:at + 57]) for at in range(0, len(stream), 57))
+    return head + b"".join(line + b"\r\n" for line in lines)
+
+
+# ---- compound files
+
+class Entry:
+    """A storage (children is a list) or a stream (data is bytes)."""
+
+    def __init__(self, name, data=None, children=None, row=False):
+        self.name, self.data, self.children, self.row = name, data, children, row
+        self.left = self.right = self.child = NONE
+        self.start, self.size = END, 0
+
+
+def in_order(entries):
+    return sorted(entries, key=lambda e: (len(e.name), e.name.upper()))
+
+
+def link(entries, numbers, row):
+    """Links siblings: one behind the other, or as a balanced tree. Answers the number of the first."""
+    if row:
+        for one, other in itertools.pairwise(entries):
+            one.right = numbers[id(other)]
+        return numbers[id(entries[0])] if entries else NONE
+    spans, top = [(0, len(entries), None, "")], NONE
+    while spans:
+        low, high, above, side = spans.pop()
+        if low == high:
+            continue
+        middle = (low + high) // 2
+        number = numbers[id(entries[middle])]
+        if above is None:
+            top = number
+        else:
+            setattr(above, side, number)
+        spans.append((low, middle, entries[middle], "left"))
+        spans.append((middle + 1, high, entries[middle], "right"))
+    return top
+
+
+def flattened(root):
+    found, waiting = [], [root]
+    while waiting:
+        entry = waiting.pop()
+        found.append(entry)
+        waiting += reversed(in_order(entry.children or []))
+    return found
+
+
+def entry_bytes(entry, kind):
+    name = entry.name.encode("utf-16-le") + b"\0\0"
+    return struct.pack(
+        "<64sHBBIII16sIQQIQ", name, len(name), kind, 1, entry.left, entry.right, entry.child, bytes(16), 0, 0, 0,
+        entry.start, entry.size,
+    )
+
+
+class Sectors:
+    """Sectors of 512 bytes and the table that links them, in file order or shuffled."""
+
+    def __init__(self):
+        self.chains = []
+
+    def add(self, data):
+        self.chains.append(data)
+        return len(self.chains) - 1
+
+    def lay_out(self, shuffled):
+        counts = [-(-len(data) // 512) for data in self.chains]
+        total, fats, difats = sum(counts), 0, 0
+        while True:
+            need = -(-(total + fats + difats) // 128)
+            more = max(0, -(-(need - 109) // 127))
+            if (need, more) == (fats, difats):
+                break
+            fats, difats = need, more
+        places = list(range(fats + difats, total + fats + difats))
+        if shuffled:
+            random.Random(4).shuffle(places)
+        return counts, places, fats, difats
+
+
+def compound(root, shuffled=False):
+    """The bytes of a compound file of version 3."""
+    entries = flattened(root)
+    numbers = {id(entry): k for k, entry in enumerate(entries)}
+    for entry in entries:
+        if entry.children:
+            entry.child = link(in_order(entry.children), numbers, entry.row)
+    sectors, mini, minifat, large = Sectors(), bytearray(), [], []
+    for entry in entries:
+        if entry.data is None:
+            continue
+        entry.size = len(entry.data)
+        if entry.size >= 4096:
+            large.append((entry, sectors.add(entry.data)))
+        elif entry.size:
+            count = -(-entry.size // 64)
+            entry.start = len(minifat)
+            minifat += [entry.start + k + 1 for k in range(count - 1)] + [END]
+            mini += entry.data + bytes(-entry.size % 64)
+    root.size = len(mini)
+    rows = -(-len(entries) // 4) * 4
+    directory = sectors.add(bytes(128 * rows))
+    small = sectors.add(bytes(mini)) if mini else None
+    minis = sectors.add(struct.pack(f"<{len(minifat)}I", *minifat) + b"\xff" * (-4 * len(minifat) % 512)) if mini else None
+    counts, places, fats, difats = sectors.lay_out(shuffled)
+    table = [FAT] * fats + [DIFAT] * difats + [FREE] * len(places)
+    starts, at = [], 0
+    for count in counts:
+        chain = places[at:at + count]
+        at += count
+        starts.append(chain[0] if chain else END)
+        for one, other in itertools.pairwise(chain):
+            table[one] = other
+        if chain:
+            table[chain[-1]] = END
+    for entry, chain in large:
+        entry.start = starts[chain]
+    if mini:
+        root.start = starts[small]
+    kinds = [5] + [1 if entry.children is not None else 2 for entry in entries[1:]]
+    text = b"".join(map(entry_bytes, entries, kinds))
+    blank = struct.pack("<64sHBBIII16sIQQIQ", b"", 0, 0, 0, NONE, NONE, NONE, bytes(16), 0, 0, 0, 0, 0)
+    sectors.chains[directory] = text + blank * (rows - len(entries))
+    return assembled(sectors, counts, places, table, fats, difats, starts, directory, minis)
+
+
+def assembled(sectors, counts, places, table, fats, difats, starts, directory, minis):
+    table += [FREE] * (fats * 128 - len(table))
+    file = bytearray(512 * (1 + fats + difats + len(places)))
+    list_of_fats = list(range(fats))
+    first = list_of_fats[:109] + [FREE] * (109 - min(109, fats))
+    mini = (END, 0) if minis is None else (starts[minis], counts[minis])
+    file[:512] = header(fats, difats, first, starts[directory], *mini)
+    file[512:512 * (1 + fats)] = struct.pack(f"<{len(table)}I", *table)
+    for k in range(difats):
+        words = list_of_fats[109 + 127 * k:109 + 127 * (k + 1)]
+        words += [FREE] * (127 - len(words)) + [fats + k + 1 if k + 1 < difats else END]
+        at = 512 * (1 + fats + k)
+        file[at:at + 512] = struct.pack("<128I", *words)
+    at = 0
+    for data, count in zip(sectors.chains, counts):
+        for k in range(count):
+            place = 512 * (1 + places[at + k])
+            piece = data[512 * k:512 * (k + 1)]
+            file[place:place + len(piece)] = piece
+        at += count
+    return bytes(file)
+
+
+def header(fats, difats, first, directory, minifat, minifats):
+    return (
+        bytes.fromhex("d0cf11e0a1b11ae1") + bytes(16) + struct.pack("<HHHHH", 0x3E, 3, 0xFFFE, 9, 6) + bytes(6)
+        + struct.pack("<IIIIIIIII", 0, fats, directory, 0, 4096, minifat, minifats, fats if difats else END, difats)
+        + struct.pack("<109I", *first)
+    )
+
+
+def msg_properties(tags):
+    """The stream of a top message's entries, each with its value's size."""
+    return bytes(32) + b"".join(struct.pack("<IIII", tag, 6, size, 0) for tag, size in tags)
+
+
+def msg_stream(size, shuffled):
+    """A message with one value of so many bytes."""
+    return compound(Entry("Root Entry", children=[
+        Entry("__properties_version1.0", msg_properties([(0x10130102, size)])),
+        Entry("__substg1.0_10130102", noise(size)),
+    ]), shuffled)
+
+
+def msg_entries(count, row):
+    """A message with so many other streams, all empty, beside its properties or in a storage."""
+    strange = [Entry(f"x{k:06}", b"") for k in range(count)]
+    properties = Entry("__properties_version1.0", msg_properties([(0x00170003, 1)]))
+    if row:
+        return compound(Entry("Root Entry", children=[properties] + strange, row=True))
+    return compound(Entry("Root Entry", children=[properties, Entry("strange", children=strange)]))
