@@ -1,2 +1,5 @@
 pub mod Reading
 pub mod Spelling
+pub mod StreamParts
+pub mod NamesOfTree
+pub mod Streams

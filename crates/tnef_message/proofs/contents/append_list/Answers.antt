@@ -1,0 +1,31 @@
+use Rattle.std.proofs.Common.{◌≡◌, ◌<◌, ◌≤◌, ◌++◌, List, ℕ, Err, length, refl, sym, ap, ◌∙◌, arith}
+use Rattle.std.specs.List.{flat_map}
+use Rattle.carrier_model.specs.Bytes.{le16, le32, sum16}
+use Rattle.carrier_model.specs.TnefCanonical.{props_bytes}
+use Rattle.tnef_message.specs.Written.{list_alone, table_bytes, content_bytes}
+use Rattle.tnef_props.specs.Named.{HasNames}
+use Rattle.tnef_props.proofs.Summed.{sums_both, sums_first, sums_second, loop_more, loop_stops}
+use Rattle.tnef_props.proofs.WrittenValues.{all_at}
+use Rattle.tnef_message.proofs.StreamParts.{props_few, lists_few, one_shorter, whole}
+use Rattle.tnef_message.proofs.contents.append_list.Goals as goal
+
+pub returns-in_err-count : goal.returns-in_err-count
+returns-in_err-count g c =
+    let props = c.args.props.now in
+    let few : length props < 4294967296 = omega (arith, c.requires.fits, props_few c.args.names.now props) in
+    sums_first (props_bytes c.args.names.now props) c.from_residual.ensures.0 (rw (c.le32.ensures, c.len.ensures) at c.in_err-count.ensures)
+
+pub returns-in_err-list : goal.returns-in_err-list
+returns-in_err-list g c =
+    let props = c.args.props.now in
+    let all = whole c.len-2.result props (omega (arith, c.len-2.ensures)) in
+    sums_second c.from_residual-in_err-list.ensures.0 (rw (c.le32.ensures, c.len.ensures) at c.in_ok-count.ensures) (rw all at c.in_err-list.ensures)
+
+pub returns : goal.returns
+returns g c =
+    let props = c.args.props.now in
+    let all = whole c.len-2.result props (omega (arith, c.len-2.ensures)) in
+    sums_both _ refl (rw (c.le32.ensures, c.len.ensures) at c.in_ok-count.ensures) (rw all at c.in_ok-list.ensures)
+
+pub overflow_cast-len : goal.overflow_cast-len
+overflow_cast-len g c = omega (arith, c.requires.fits, c.len.ensures, props_few c.args.names.now c.args.props.now)
