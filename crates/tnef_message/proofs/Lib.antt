@@ -1,5 +1,4 @@
 pub mod Reading
-pub mod Spelling
 pub mod StreamParts
 pub mod NamesOfTree
 pub mod Streams

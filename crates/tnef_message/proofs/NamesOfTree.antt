@@ -1,12 +1,15 @@
 -- The names of a tree are among the names that it is written with.
-use Rattle.std.proofs.Common.{◌≡◌, ℕ, zero, suc, ◌+◌, ◌<◌, ◌++◌, List, [], ◌∷◌, length, get_or, refl, sym, ap, subst, ◌∙◌, arith}
-use Rattle.std.specs.Prelude.{Contains, All, slice_get, Some}
+use Rattle.std.proofs.Common.{◌≡◌, ℕ, zero, suc, ◌+◌, ◌<◌, ◌≤◌, ◌++◌, List, [], ◌∷◌, length, get_or, inl, inr, refl, sym, ap, subst, ◌∙◌, arith}
+use Rattle.std.specs.Prelude.{Contains, All, slice_get, Some, None}
 use Rattle.std.specs.List.{flat_map}
 use Rattle.std.specs.declared.cmp.Ordering.{Ordering}
 use Rattle.std.specs.declared.cmp.Ordering.TheVariants.{Less, Equal, Greater}
+use Rattle.std.proofs.lemmas.Bool.{cases_lt}
 use Rattle.std.proofs.lemmas.List.Elements.{Contains-append_left, Contains-append_right}
 use Rattle.std.proofs.lemmas.Option.{slice_get_within, get_or_from_slice_get}
 use Rattle.carrier_model.specs.Keys.{Name, Key, id, named, name_cmp}
+use Rattle.carrier_model.specs.Limits.{first_limit, tnef_limits, too_many_names}
+use Rattle.carrier_model.proofs.Messages.{is_passed}
 use Rattle.carrier_model.specs.Sorted.{choose, with_element, with_elements}
 use Rattle.carrier_model.specs.Tree.{Message, Attached, name_in, names_in, names_in_props, names_at, names_below, names_of, attachments_from}
 use Rattle.carrier_model.specs.Values.{Prop}
@@ -75,3 +78,10 @@ pub includes_at : (names : List Name) (xs : List Attached) (k : ℕ) (x : Attach
 includes_at names [] k x at h = absurd (omega (arith, slice_get_within {A = Attached} [] k x at))
 includes_at names (y ∷ xs) zero x at h = subst (λ (z : Attached). Includes names (names_at z)) (get_or_from_slice_get (y ∷ xs) 0 x x at) (includes_left names (names_at y) (names_below (attachments_from xs)) h)
 includes_at names (y ∷ xs) (suc k) x at h = includes_at names xs k x at (includes_right names (names_at y) (names_below (attachments_from xs)) h)
+
+-- a tree that passes no limit of a TNEF stream has few names
+pub few_names : (t : Message) → first_limit (tnef_limits t) ≡ None → length (names_of t) ≤ 32000
+few_names t none = elim (cases_lt 32000 (length (names_of t))) [
+  | inl many ↦ let e = is_passed 32000 (length (names_of t)) (too_many_names (length (names_of t))) many in absurd (let some = sym (ap first_limit e) ∙ none in cc)
+  | inr few ↦ few
+]

@@ -1,3 +1,5 @@
 pub mod Entering
 pub mod Views
 pub mod Written
+pub mod Plans
+pub mod PlanViews

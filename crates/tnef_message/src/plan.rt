@@ -1,79 +1,72 @@
 //! The canonical stream of a tree, planned and written.
-use crate::writing::write_tnef;
-use carrier_io::{Blob, Failed, Sink};
+ghost use Rattle.msg_tree.specs.Whole.{plain_of};
+ghost use Rattle.tnef_message.specs.Plans.{IsPlanned};
+
+use crate::sizes::message_size;
+use crate::stream::append_message;
+use carrier_io::{Blob, Failed, PlanEnd, Sink};
 use msg_tree::Tree;
-use prop_values::Props;
-use std::marker::Model;
+use prop_names::NameSet;
+use std::alloc::Global;
 
-/// The bytes of a stream without properties.
-const LEAST: u64 = 55;
+/// The most bytes of an output.
+const MOST_BYTES: u64 = 268_435_456;
 
-/// The bytes of a property.
-const EACH: u64 = 8;
-
-/// What will be written for a tree. It borrows the tree and holds no output; it is seen as the message's properties.
+/// What will be written for a tree. It borrows the tree and its names, and holds no output.
 #[derive(Drop)]
 pub struct TnefPlan<'t, B: Blob> {
     tree: &'t Tree<B>,
-}
-
-impl<'t, B: Blob> Model for TnefPlan<'t, B> {
-    ghost use Rattle.std.specs.Prelude.{List};
-    ghost use Rattle.carrier_model.specs.Tnef.{IsBuiltMessage, props_of};
-    ghost use Rattle.carrier_model.specs.Values.{Prop};
-    ghost use Rattle.msg_tree.specs.Whole.{plain_of};
-
-    ghost Value = { List Prop };
-
-    ghost view = { λ p. props_of (plain_of p.tree.now) };
-
-    ghost invariant = { λ p. IsBuiltMessage (plain_of p.tree.now) };
+    names: &'t NameSet,
+    size: u64,
+    ghost planned: { IsPlanned (plain_of tree.now) names.now size },
 }
 
 impl<'t, B: Blob> TnefPlan<'t, B> {
-    ghost use Rattle.std.specs.Prelude.{◌≡◌, ◌≤◌, All, length};
+    ghost use Rattle.std.specs.Prelude.{◌≡◌, ◌≤◌, None, length, IfOk, IfErr};
     ghost use Rattle.carrier_io.specs.Known.{Writes};
-    ghost use Rattle.carrier_model.specs.Lists.{IsBuilt};
-    ghost use Rattle.carrier_model.specs.Tnef.{IsBuiltMessage, props_of, tnef_of};
+    ghost use Rattle.carrier_model.specs.TnefCanonical.{tnef_of};
+    ghost use Rattle.carrier_model.specs.Limits.{first_limit, tnef_limits};
+    ghost use Rattle.carrier_model.specs.Targets as targets;
+    ghost use Rattle.carrier_model.specs.Tree.{names_of};
     ghost use Rattle.msg_tree.specs.Whole.{plain_of};
+    ghost use Rattle.tnef_message.specs.Plans.{IsEndOf};
+    ghost use Rattle.tnef_message.specs.PlanViews.{tree_in};
 
-    /// A plan of the tree, whose message has unnamed Integer32 properties and nothing else.
-    pub fn new(tree: &'t Tree<B>) -> TnefPlan<'t, B>
-        requires { IsBuiltMessage (plain_of tree.now) }
-        ensures { result ≡ props_of (plain_of tree.now) }
+    /// A plan of the tree. TooLarge says that its stream has more bytes than an output may have, and how many; a number
+    /// above the greatest `u64` stays there.
+    pub fn new(
+        _alloc: Global,
+        tree: &'t Tree<B>,
+        names: &'t NameSet,
+    ) -> Result<TnefPlan<'t, B>, PlanEnd>
+        requires names { names.now ≡ names_of (plain_of tree.now) }
+        requires few { first_limit (tnef_limits (plain_of tree.now)) ≡ None }
+        ensures value { IfOk result (λ p. tree_in p ≡ plain_of tree.now) }
+        ensures fits { IfOk result (λ _. length (tnef_of (plain_of tree.now)) ≤ targets.MOST_BYTES) }
+        ensures end { IfErr result (IsEndOf (plain_of tree.now)) }
     {
-        TnefPlan { tree }
-    }
-
-    /// The properties that are written.
-    fn props(&self) -> &Props<B>
-        ensures { result.now ≡ self.now }
-    {
-        &self.tree.top().props
-    }
-
-    /// The same, with what the plan keeps of them.
-    fn kept(&self) -> &Props<B>
-        ensures value { result.now ≡ self.now }
-        ensures few { length self.now ≤ 32768 }
-        ensures built { All IsBuilt self.now }
-    {
-        let _tree = &self.tree;
-        self.props()
+        let size = message_size(tree.top());
+        if size > MOST_BYTES {
+            return Err(PlanEnd::TooLarge(size));
+        }
+        Ok(TnefPlan { tree, names, size })
     }
 
     /// How many bytes are written.
     pub fn size(&self) -> u64
-        ensures { result ≡ length (tnef_of self.now) }
+        ensures { result ≡ length (tnef_of (tree_in self.now)) }
     {
-        LEAST + EACH * self.kept().len() as u64
+        self.size
     }
 
-    /// Appends the canonical stream (MS-OXTNEF). It takes no memory. Failed says that the sink failed; then a front of
-    /// the stream may stand there.
+    /// Appends the canonical stream. It takes no memory. Failed says that the sink failed; then a front of the stream
+    /// may stand there. [MS-OXTNEF 2.1.3]
     pub fn write<W: Sink>(&self, sink: &mut W) -> Result<(), Failed>
-        ensures { Writes (W.held sink.old) (W.held sink.new) (W.faults sink.old) (W.faults sink.new) result (tnef_of self.now) }
+        ensures { Writes (W.held sink.old) (W.held sink.new) (W.faults sink.old) (W.faults sink.new) result (tnef_of (tree_in self.now)) }
     {
-        write_tnef(sink, self.kept())
+        match append_message(sink, self.names, self.tree.top()) {
+            Ok(_) => Ok(()),
+            Err(failed) => Err(failed),
+        }
     }
 }

@@ -1,5 +1,6 @@
 use crate::{TnefPlan, read_tnef};
 use carrier_io::MemorySink;
+use msg_tree::{fits_tnef, names};
 use std::test::*;
 
 /// A stream with the code page 1252 and one property, id 0017 and value 2.
@@ -15,7 +16,13 @@ fn a_stream_is_read_and_written(rt: HostRuntime) -> Result<(), Fail> {
     let accepted = read_tnef(rt.alloc(), &STREAM).ok().ok_or("a message")?;
     assert_eq!(rt; accepted.tree.top().props.len(), 1);
     assert_eq!(rt; accepted.passed.len(), 0);
-    let plan = TnefPlan::new(&accepted.tree);
+    let names = names(rt.alloc(), &accepted.tree).ok().ok_or("memory")?;
+    if fits_tnef(&accepted.tree, &names).is_some() {
+        return Err("few names".into());
+    }
+    let plan = TnefPlan::new(rt.alloc(), &accepted.tree, &names)
+        .ok()
+        .ok_or("a plan")?;
     assert_eq!(rt; plan.size(), 63);
     let mut sink = MemorySink::new(rt.alloc(), 64, Vec::new(rt.alloc()))
         .ok()
