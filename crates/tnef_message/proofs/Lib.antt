@@ -1,4 +1,4 @@
 pub mod Reading
 pub mod StreamParts
 pub mod NamesOfTree
-pub mod Streams
+pub mod WrittenStreams

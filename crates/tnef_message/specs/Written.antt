@@ -9,8 +9,8 @@ use Rattle.carrier_model.specs.TnefLists.{OBJECT}
 use Rattle.carrier_model.specs.TnefMessage.{IID_MESSAGE}
 use Rattle.carrier_model.specs.Tree.{Message, Attached}
 use Rattle.carrier_model.specs.Values.{Prop, kind_of}
-use Rattle.tnef_message.specs.declared.contents.Content.{Content}
-use Rattle.tnef_message.specs.declared.contents.Content.TheVariants.{ListOf, Table}
+use Rattle.tnef_message.specs.declared.filled.Content.{Content}
+use Rattle.tnef_message.specs.declared.filled.Content.TheVariants.{ListOf, Table}
 use Rattle.tnef_props.specs.Named.{HasNames}
 
 -- the list of one attachment

@@ -3,7 +3,7 @@
 
 mod appending;
 mod choice;
-mod contents;
+mod filled;
 mod list;
 mod message;
 mod plan;

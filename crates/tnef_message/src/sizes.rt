@@ -7,7 +7,7 @@ ghost use Rattle.carrier_model.specs.Tree as plain;
 ghost use Rattle.msg_tree.specs.Meaning.{tree_of, attached_of};
 ghost use Rattle.tnef_message.specs.Written.{attachment_bytes};
 
-use crate::contents::table_size;
+use crate::filled::table_size;
 use carrier_io::Blob;
 use msg_tree::{Attachment, Message, Recipients};
 use prop_values::Props;

@@ -11,7 +11,7 @@ ghost use Rattle.tnef_props.specs.Named.{HasNames};
 ghost use Rattle.tnef_props.specs.Summed.{Sums};
 
 use crate::appending::{append, append_attribute, append_zeros};
-use crate::contents::{Content, append_filled, append_range};
+use crate::filled::{Content, append_filled, append_range};
 use crate::sizes::message_size;
 use carrier_io::{Blob, Failed, Sink, le16, le32, pad4};
 use msg_tree::{Attachment, Message, Recipients};

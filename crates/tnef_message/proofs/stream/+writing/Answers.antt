@@ -24,7 +24,7 @@ use Rattle.tnef_props.proofs.WrittenValues.{padding}
 use Rattle.tnef_message.specs.Written.{own_bytes, attachment_bytes, attached_list, carried_list, list_alone, interface_bytes, Includes}
 use Rattle.tnef_message.proofs.NamesOfTree.{includes_left, includes_right, has_names, all_have_names, includes_at}
 use Rattle.tnef_message.proofs.StreamParts.{one_shorter, props_few, before, behind}
-use Rattle.tnef_message.proofs.Streams.{behind_more, behind_stops, object_parts, sums_as, message_whole}
+use Rattle.tnef_message.proofs.WrittenStreams.{behind_more, behind_stops, object_parts, sums_as, message_whole}
 use Rattle.tnef_message.proofs.stream.+writing.Goals as goal
 
 -- ---- a message

@@ -2,7 +2,7 @@ use Rattle.std.proofs.Common.{◌≡◌, ℕ, Option, Some, None, drop, ◌+◌,
 use Rattle.std.specs.Prelude.{unwrap_or}
 use Rattle.carrier_model.specs.TnefCanonical as canon
 use Rattle.tnef_message.specs.Written.{picked}
-use Rattle.tnef_message.proofs.Streams.{integer_step}
+use Rattle.tnef_message.proofs.WrittenStreams.{integer_step}
 use Rattle.tnef_message.proofs.stream.integer_or.Goals as goal
 
 pub returns-in-Some : goal.returns-in-Some

@@ -8,7 +8,7 @@ use Rattle.tnef_props.specs.Named.{HasNames}
 use Rattle.tnef_props.proofs.Summed.{sums_both, sums_first, sums_second, loop_more, loop_stops}
 use Rattle.tnef_props.proofs.WrittenValues.{all_at}
 use Rattle.tnef_message.proofs.StreamParts.{props_few, lists_few, one_shorter, whole}
-use Rattle.tnef_message.proofs.contents.append_filled.Goals as goal
+use Rattle.tnef_message.proofs.filled.append_filled.Goals as goal
 
 pub returns-in_err-head : goal.returns-in_err-head
 returns-in_err-head g c =

@@ -7,7 +7,7 @@ use Rattle.tnef_props.specs.Named.{HasNames}
 use Rattle.tnef_props.proofs.Summed.{sums_both, sums_first, sums_second, loop_more, loop_stops}
 use Rattle.tnef_props.proofs.WrittenValues.{all_at}
 use Rattle.tnef_message.proofs.StreamParts.{props_few, lists_few, one_shorter, whole}
-use Rattle.tnef_message.proofs.contents.append_lists.Goals as goal
+use Rattle.tnef_message.proofs.filled.append_lists.Goals as goal
 
 pub append_list-requires-clause-fits : goal.append_list-requires-clause-fits
 append_list-requires-clause-fits g c = omega (arith, c.requires.fits, one_shorter (list_alone c.args.names.now) c.args.recipients.now c.loop-k.k _ c.get.ensures)

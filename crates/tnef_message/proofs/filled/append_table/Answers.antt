@@ -7,7 +7,7 @@ use Rattle.tnef_props.specs.Named.{HasNames}
 use Rattle.tnef_props.proofs.Summed.{sums_both, sums_first, sums_second, loop_more, loop_stops}
 use Rattle.tnef_props.proofs.WrittenValues.{all_at}
 use Rattle.tnef_message.proofs.StreamParts.{props_few, lists_few, one_shorter, whole}
-use Rattle.tnef_message.proofs.contents.append_table.Goals as goal
+use Rattle.tnef_message.proofs.filled.append_table.Goals as goal
 
 pub returns-in_err-count : goal.returns-in_err-count
 returns-in_err-count g c = sums_first (flat_map (list_alone c.args.names.now) c.args.recipients.now) c.from_residual.ensures.0 (rw (c.le32.ensures, c.len.ensures) at c.in_err-count.ensures)

@@ -2,7 +2,7 @@ use Rattle.std.proofs.Common.{◌≡◌, ℕ, List, None, length, take, ap, refl
 use Rattle.std.specs.List.{flat_map}
 use Rattle.tnef_message.specs.Written.{list_alone}
 use Rattle.tnef_props.proofs.Summed.{flat_map_more}
-use Rattle.tnef_message.proofs.contents.table_size.Goals as goal
+use Rattle.tnef_message.proofs.filled.table_size.Goals as goal
 
 pub loop-k-preserved : goal.loop-k-preserved
 loop-k-preserved g c = λ names.

@@ -1,5 +1,5 @@
 use Rattle.tnef_props.proofs.Summed.{sums_written, sums_unwritten}
-use Rattle.tnef_message.proofs.contents.append_range.Goals as goal
+use Rattle.tnef_message.proofs.filled.append_range.Goals as goal
 
 pub returns-in_err-write_range : goal.returns-in_err-write_range
 returns-in_err-write_range g c = sums_unwritten c.from_residual.ensures.0 c.in_err-write_range.ensures
