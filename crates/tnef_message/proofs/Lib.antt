@@ -1,4 +1,12 @@
-pub mod Reading
+pub mod Depths
+pub mod Drafting
+pub mod Gathering
+pub mod Groups
+pub mod Joins
+pub mod Parts
+pub mod Placing
 pub mod StreamParts
 pub mod NamesOfTree
 pub mod WrittenStreams
+pub mod Streams
+pub mod Tables

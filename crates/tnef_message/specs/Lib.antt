@@ -1,4 +1,9 @@
-pub mod Entering
+pub mod Contents
+pub mod Drafts
+pub mod Entries
+pub mod Roles
+pub mod Sections
+pub mod Streams
 pub mod Views
 pub mod Written
 pub mod Plans

@@ -2,16 +2,20 @@
 #![tactic(auto)]
 
 mod appending;
-mod choice;
+mod contents;
+mod drafts;
 mod filled;
-mod list;
-mod message;
+mod gifts;
+mod interfaces;
 mod plan;
+mod roles;
+mod sections;
 mod sizes;
 mod stream;
+mod whole;
 
-pub use message::read_tnef;
 pub use plan::TnefPlan;
+pub use whole::read_tnef;
 
 #[cfg(test)]
 mod tests;

@@ -1,0 +1,23 @@
+use Rattle.std.proofs.Common.{List, refl, ◌≡◌, ◌∙◌, ap, subst, sym}
+use Rattle.std.specs.Prelude.{All}
+use Rattle.carrier_model.specs.TnefMessage.{Read, joined}
+use Rattle.msg_tree.specs.Meaning.{list_of}
+use Rattle.tnef_message.specs.Drafts.{IsDraft}
+use Rattle.tnef_message.specs.Sections.{HasId}
+use Rattle.tnef_message.specs.declared.sections.Section.{Section}
+use Rattle.tnef_message.proofs.Drafting.{current_sorted, current_ids, own_ids, finished}
+use Rattle.tnef_message.proofs.drafts.Draft.finish.Goals as goal
+
+pub close-requires-clause-sorted : goal.close-requires-clause-sorted
+close-requires-clause-sorted c = current_sorted c.requires.0 _ c.args.self.current c.requires.1.attached
+
+pub close-requires-clause-ids : goal.close-requires-clause-ids
+close-requires-clause-ids c = current_ids c.requires.0 _ c.args.self.current c.requires.1.attached
+
+pub join-requires-clause-ids : goal.join-requires-clause-ids
+join-requires-clause-ids c = subst (λ (z : Section). All HasId z.derived.items) (sym c.in_ok-close.ensures.own) (own_ids c.requires.0 c.args.self c.requires.1)
+
+pub returns : goal.returns
+returns c = λ (reads : List Read) (here : IsDraft reads c.args.self).
+    c.message_of.ensures ∙ finished reads c.args.self c.in_ok-props.props c.close.new.self.recipients (list_of (λ s. s.now) c.close.new.self.attachments) here
+    (c.in_ok-props.ensures ∙ ap (λ (z : Section). joined z.list z.derived.items) c.in_ok-close.ensures.own) c.in_ok-close.ensures.recipients c.in_ok-close.ensures.attachments

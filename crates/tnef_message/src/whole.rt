@@ -1,0 +1,138 @@
+//! Whole streams, and the streams that lie in them. [MS-OXTNEF 2.1.3]
+ghost use Rattle.std.specs.Prelude.{◌≡◌, ◌==◌, ◌+◌, ◌≤◌, ◌++◌, List, IfOk, IfErr, length, nat_eq, true, OnOk};
+ghost use Rattle.carrier_io.specs.Reads.{OnFault, Reads};
+ghost use Rattle.carrier_model.specs.LegacyAttributes as plain;
+ghost use Rattle.carrier_model.specs.TnefMessage.{GREATEST_LEVEL as plain_greatest, TnefFault, message_within};
+ghost use Rattle.tnef_attributes.specs.Views.{view};
+ghost use Rattle.tnef_message.specs.Contents.{FailsPart, GivesPart, objects_at};
+ghost use Rattle.tnef_message.specs.Streams.{GivesMessage, objects_fail, stream_fails};
+ghost use Rattle.tnef_message.specs.Views.{meaning_in};
+
+use crate::contents::plain_gift;
+use crate::drafts::Draft;
+use crate::gifts::Gift;
+use crate::interfaces::test_interface;
+use crate::roles::ATTACHMENT_LIST;
+use carrier_io::{Fault, PassedList, Reason, Stop};
+use msg_tree::{Accepted, Message, Tree};
+use prop_values::Part;
+use std::alloc::Global;
+use tnef_attributes::{Attribute, Attributes};
+use tnef_props::{Object, ReadList, read_list};
+
+/// How many levels of messages may lie in a message.
+const GREATEST_LEVEL: u32 = 32;
+
+/// The message of the stream whose first byte stands at an offset of the input, where so many levels of messages may
+/// lie in it. What is passed over is added to `passed`. A fault is the first.
+#[cycle(reading)]
+fn message_at<'a>(
+    alloc: Global,
+    bytes: &'a [u8],
+    at: u64,
+    levels: u32,
+    passed: &mut PassedList,
+) -> Result<Message<&'a [u8]>, Stop>
+    requires { at + length bytes.now ≤ 268435456 }
+    ensures found { IfOk result (GivesMessage (message_within levels) at bytes.entry.now passed.old passed.new) }
+    ensures fault { IfErr result (OnFault (stream_fails levels at bytes.entry.now)) }
+{
+    let attributes = Attributes::read(alloc, bytes, at)?;
+    let mut draft = Draft::new(alloc);
+    for k in 0..attributes.len() {
+        let attribute = attributes.get(k);
+        draft.test(attribute)?;
+        let gift = gift_of(alloc, attribute, levels, passed)?;
+        draft.enter(alloc, attribute, gift)?;
+    }
+    let message = draft.finish(alloc)?;
+    Ok(message)
+}
+
+/// What the bytes of an attribute give.
+#[cycle(reading)]
+fn gift_of<'a>(
+    alloc: Global,
+    attribute: &Attribute<'a>,
+    levels: u32,
+    passed: &mut PassedList,
+) -> Result<Gift<'a>, Stop>
+    requires { attribute.now.offset + 9 + length attribute.now.bytes.now ≤ 268435456 }
+    ensures found { IfOk result (GivesPart levels (view attribute.now) passed.old passed.new) }
+    ensures fault { IfErr result (OnFault (FailsPart levels (view attribute.now))) }
+{
+    if attribute.id == ATTACHMENT_LIST {
+        attachment_gift(alloc, attribute, levels, passed)
+    } else {
+        plain_gift(alloc, attribute, passed)
+    }
+}
+
+/// The list of an attachment, and the message in its Object.
+#[cycle(reading)]
+fn attachment_gift<'a>(
+    alloc: Global,
+    attribute: &Attribute<'a>,
+    levels: u32,
+    passed: &mut PassedList,
+) -> Result<Gift<'a>, Stop>
+    requires room { attribute.now.offset + 9 + length attribute.now.bytes.now ≤ 268435456 }
+    requires list { attribute.now.id ≡ plain.ATTACHMENT }
+    ensures found { IfOk result (GivesPart levels (view attribute.now) passed.old passed.new) }
+    ensures fault { IfErr result (OnFault (FailsPart levels (view attribute.now))) }
+{
+    let at = attribute.offset + 9;
+    let list = read_list(alloc, attribute.bytes, 0, at, Part::Attachment, passed)?;
+    let ReadList {
+        props,
+        object,
+        end: _,
+    } = list;
+    match object {
+        Some(object) => {
+            let message = message_in(alloc, object, levels, passed)?;
+            let inner = Box::new(alloc, message)?;
+            Ok(Gift::AttachmentList {
+                props,
+                inner: Some(inner),
+            })
+        }
+        None => Ok(Gift::AttachmentList { props, inner: None }),
+    }
+}
+
+/// The message in the Object of an attachment.
+#[cycle(reading)]
+fn message_in<'a>(
+    alloc: Global,
+    object: Object<'a>,
+    levels: u32,
+    passed: &mut PassedList,
+) -> Result<Message<&'a [u8]>, Stop>
+    ensures found { IfOk result (GivesMessage (objects_at levels) object.entry.offset object.entry.bytes.now passed.old passed.new) }
+    ensures fault { IfErr result (OnFault (objects_fail levels object.entry.offset object.entry.bytes.now)) }
+{
+    test_interface(&object)?;
+    if levels == 0 {
+        return Err(Stop::Fault(Fault {
+            reason: Reason::TooDeep,
+            offset: object.offset,
+        }));
+    }
+    let (_, stream) = object.bytes.split_at(16);
+    message_at(alloc, stream, object.offset + 16, levels - 1, passed)
+}
+
+/// The message that a whole stream means, and what stands beside it, in reading order; or its first fault.
+/// [MS-OXTNEF 2.1.3]
+pub fn read_tnef<'a>(alloc: Global, bytes: &'a [u8]) -> Result<Accepted<&'a [u8]>, Stop>
+    requires { length bytes.now ≤ 268435456 }
+    ensures { Reads meaning_in result ((message_within plain_greatest).means 0 bytes.entry.now) (TnefFault bytes.entry.now) }
+{
+    let mut passed = PassedList::new(alloc);
+    let message = message_at(alloc, bytes, 0, GREATEST_LEVEL, &mut passed)?;
+    match Tree::new(message) {
+        Ok(tree) => Ok(Accepted { tree, passed }),
+        Err(_) => unreachable!(),
+    }
+}
