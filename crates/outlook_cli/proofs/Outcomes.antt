@@ -1,31 +1,85 @@
--- The two answers that there are for a job.
-use Rattle.std.proofs.Common.{◌≡◌, ℕ, List, Option, Some, None, refl, sym}
-use Rattle.std.specs.Prelude.{IfSome}
-use Rattle.carrier_model.specs.Jobs.{Accepts, FaultOf}
+-- The three answers that there are for a job.
+use Rattle.std.proofs.Common.{◌≡◌, ℕ, ◌<◌, ◌≤◌, List, [], ◌∷◌, ◌++◌, length, Option, Some, None, refl, sym, ap, ◌∙◌, arith}
+use Rattle.std.specs.Prelude.{IfSome, nat_lt}
+use Rattle.std.specs.Option.{option_map}
+use Rattle.carrier_model.specs.Limits as limits
+use Rattle.carrier_model.specs.Limits.{first_limit, tnef_limits, too_large}
+use Rattle.carrier_model.specs.Targets.{MOST_BYTES, passed_size}
+use Rattle.carrier_model.specs.TnefCanonical.{tnef_of}
+use Rattle.carrier_model.specs.TnefJobs.{Accepts, FaultOf}
+use Rattle.carrier_model.specs.TnefMessage.{Meaning}
+use Rattle.carrier_model.specs.Totals.{capped}
 use Rattle.carrier_model.specs.Tree.{Message}
+use Rattle.carrier_model.proofs.Messages.{first_found, first_later, is_passed, isnt_passed}
+use Rattle.msg_tree.specs.Limiting.{limit_of}
+use Rattle.msg_tree.specs.declared.target_limits.Limit.{Limit}
+use Rattle.msg_tree.specs.declared.target_limits.Limit.TheVariants.{Size}
 use Rattle.outlook_cli.specs.declared.status.Status.{Status}
-use Rattle.outlook_cli.specs.declared.status.Status.TheVariants.{Done, Refused, Usage, ReadFault, WriteFault, NoMemory}
-use Rattle.outlook_cli.specs.Outcome.{Tells, IsDone, IsRefused}
+use Rattle.outlook_cli.specs.declared.status.Status.TheVariants.{Done, Refused, Usage, Unfit, ReadFault, WriteFault, NoMemory}
+use Rattle.outlook_cli.specs.Outcome.{Puts, Tells, IsAccepted, IsDone, IsUnfit, IsRefused, stream_limit}
 
-is_done : (s : Status) (bytes : List ℕ) (old new : Option (List ℕ)) → (s ≡ Usage → ⊥) → Tells s bytes old new → (m : Message) → Accepts bytes m → IsDone s
-is_done Done bytes old new u t m a = tt
-is_done (Refused g) bytes old new u t m a = t.meaningless m a
-is_done Usage bytes old new u t m a = u refl
-is_done ReadFault bytes old new u t m a = tt
-is_done WriteFault bytes old new u t m a = tt
-is_done NoMemory bytes old new u t m a = tt
+-- ---- the first limit
+
+pub limit_by_names : (t : Message) (limit : Limit) → Some (limit_of limit) ≡ first_limit (tnef_limits t) → stream_limit t ≡ Some (limit_of limit)
+limit_by_names t limit e = first_found (tnef_limits t) (passed_size (tnef_of t)) (limit_of limit) (sym e)
+
+pub limit_by_size : (t : Message) (n : ℕ) → None ≡ first_limit (tnef_limits t) → MOST_BYTES < length (tnef_of t) → n ≡ capped (length (tnef_of t)) → stream_limit t ≡ Some (limit_of (Size n))
+limit_by_size t n none long e =
+    first_later (tnef_limits t) (passed_size (tnef_of t)) (sym none)
+    ∙ ap first_limit (is_passed MOST_BYTES (length (tnef_of t)) (too_large (capped (length (tnef_of t)))) long)
+    ∙ ap (λ (k : ℕ). Some (too_large k)) (sym e)
+
+pub no_limit : (t : Message) → None ≡ first_limit (tnef_limits t) → length (tnef_of t) ≤ MOST_BYTES → stream_limit t ≡ None
+no_limit t none short =
+    first_later (tnef_limits t) (passed_size (tnef_of t)) (sym none)
+    ∙ ap first_limit (isnt_passed MOST_BYTES (length (tnef_of t)) (too_large (capped (length (tnef_of t)))) short)
+
+-- ---- what is told
+
+-- what was written of the one message that the bytes mean
+pub tells : (s : Status) (bytes : List ℕ) (old new : Option (List ℕ)) (m : Meaning) → IsAccepted bytes m → Puts s m.message old new → Tells s bytes old new
+tells Done bytes old new m a p = (m, a, p)
+tells (Refused g) bytes old new m a p = absurd p
+tells Usage bytes old new m a p = tt
+tells (Unfit limit) bytes old new m a p = (m, a, p)
+tells ReadFault bytes old new m a p = tt
+tells WriteFault bytes old new m a p = (m, a, p)
+tells NoMemory bytes old new m a p = tt
+
+is_done : (s : Status) (bytes : List ℕ) (old new : Option (List ℕ)) → (s ≡ Usage → ⊥) → Tells s bytes old new → (m : Meaning) → Accepts bytes m → stream_limit m.message ≡ None → IsDone s
+is_done Done bytes old new u t m a n = tt
+is_done (Refused g) bytes old new u t m a n = t.meaningless m a
+is_done Usage bytes old new u t m a n = u refl
+is_done (Unfit limit) bytes old new u t m a n = let e = t.1.only m a in absurd (let same = ap (λ (k : Meaning). stream_limit k.message) e in let some = t.2 in cc)
+is_done ReadFault bytes old new u t m a n = tt
+is_done WriteFault bytes old new u t m a n = tt
+is_done NoMemory bytes old new u t m a n = tt
+
+is_unfit : (s : Status) (bytes : List ℕ) (old new : Option (List ℕ)) → (s ≡ Usage → ⊥) → Tells s bytes old new → (m : Meaning) (limit : limits.Limit) → Accepts bytes m → stream_limit m.message ≡ Some limit → IsUnfit limit s
+is_unfit Done bytes old new u t m limit a n = let same = ap (λ (k : Meaning). stream_limit k.message) (t.1.only m a) in let none = t.2.0 in cc
+is_unfit (Refused g) bytes old new u t m limit a n = t.meaningless m a
+is_unfit Usage bytes old new u t m limit a n = u refl
+is_unfit (Unfit other) bytes old new u t m limit a n = let same = ap (λ (k : Meaning). stream_limit k.message) (t.1.only m a) in let some = t.2 in cc
+is_unfit ReadFault bytes old new u t m limit a n = tt
+is_unfit WriteFault bytes old new u t m limit a n = let same = ap (λ (k : Meaning). stream_limit k.message) (t.1.only m a) in let none = t.2.0 in cc
+is_unfit NoMemory bytes old new u t m limit a n = tt
 
 is_refused : (s : Status) (bytes : List ℕ) (old new : Option (List ℕ)) → (s ≡ Usage → ⊥) → Tells s bytes old new → (g : ℕ × ℕ) → FaultOf bytes g → IsRefused g s
 is_refused Done bytes old new u t g f = t.1.faultless g f
 is_refused (Refused h) bytes old new u t g f = sym (t.only g f)
 is_refused Usage bytes old new u t g f = u refl
+is_refused (Unfit limit) bytes old new u t g f = t.1.faultless g f
 is_refused ReadFault bytes old new u t g f = tt
 is_refused WriteFault bytes old new u t g f = t.1.faultless g f
 is_refused NoMemory bytes old new u t g f = tt
 
-pub told_done : (told : Option (List ℕ)) (s : Status) (old new : Option (List ℕ)) → (s ≡ Usage → ⊥) → IfSome told (λ bytes. Tells s bytes old new) → IfSome told (λ bytes. (m : Message) → Accepts bytes m → IsDone s)
+pub told_done : (told : Option (List ℕ)) (s : Status) (old new : Option (List ℕ)) → (s ≡ Usage → ⊥) → IfSome told (λ bytes. Tells s bytes old new) → IfSome told (λ bytes. (m : Meaning) → Accepts bytes m → stream_limit m.message ≡ None → IsDone s)
 told_done None s old new u t = tt
 told_done (Some bytes) s old new u t = is_done s bytes old new u t
+
+pub told_unfit : (told : Option (List ℕ)) (s : Status) (old new : Option (List ℕ)) → (s ≡ Usage → ⊥) → IfSome told (λ bytes. Tells s bytes old new) → IfSome told (λ bytes. (m : Meaning) (limit : limits.Limit) → Accepts bytes m → stream_limit m.message ≡ Some limit → IsUnfit limit s)
+told_unfit None s old new u t = tt
+told_unfit (Some bytes) s old new u t = is_unfit s bytes old new u t
 
 pub told_refused : (told : Option (List ℕ)) (s : Status) (old new : Option (List ℕ)) → (s ≡ Usage → ⊥) → IfSome told (λ bytes. Tells s bytes old new) → IfSome told (λ bytes. (g : ℕ × ℕ) → FaultOf bytes g → IsRefused g s)
 told_refused None s old new u t = tt

@@ -1,10 +1,11 @@
 //! The line of the report.
-ghost use Rattle.std.specs.Prelude.{decimal};
+ghost use Rattle.std.specs.Prelude.{◌≡◌, decimal};
 ghost use Rattle.carrier_io.specs.Known.{Writes};
-ghost use Rattle.outlook_cli.specs.Report.{line_of, refusal_line};
+ghost use Rattle.outlook_cli.specs.Report.{line_of, refusal_line, limit_line, limit_name as name_of_limit, counted_in as number_in};
 
 use crate::status::Status;
 use carrier_io::{Failed, Fault, Sink, write_parts, write_pieces};
+use msg_tree::Limit;
 
 /// Appends the digits of a number.
 fn write_decimal<W: Sink>(sink: &mut W, n: u64) -> Result<(), Failed>
@@ -28,6 +29,39 @@ fn write_refusal<W: Sink>(sink: &mut W, fault: Fault) -> Result<(), Failed>
     write_pieces(sink, b"\n")
 }
 
+/// The name of a limit.
+fn limit_name(limit: Limit) -> &'static str
+    ensures { result.now ≡ name_of_limit limit }
+{
+    match limit {
+        Limit::Names(_) => "Names",
+        Limit::Recipients(_) => "Recipients",
+        Limit::Attachments(_) => "Attachments",
+        Limit::Size(_) => "Size",
+    }
+}
+
+/// The number that passes a limit.
+fn counted_in(limit: Limit) -> u64
+    ensures { result ≡ number_in limit }
+{
+    match limit {
+        Limit::Names(counted) => counted,
+        Limit::Recipients(counted) => counted,
+        Limit::Attachments(counted) => counted,
+        Limit::Size(counted) => counted,
+    }
+}
+
+/// Appends the line of a limit that is passed.
+fn write_limit<W: Sink>(sink: &mut W, limit: Limit) -> Result<(), Failed>
+    ensures { Writes (W.held sink.old) (W.held sink.new) (W.faults sink.old) (W.faults sink.new) result (limit_line limit) }
+{
+    write_parts(sink, &[b"unfit ", limit_name(limit).as_bytes(), b" "])?;
+    write_decimal(sink, counted_in(limit))?;
+    write_pieces(sink, b"\n")
+}
+
 /// Appends the line of a status.
 pub fn write_report<W: Sink>(sink: &mut W, status: Status) -> Result<(), Failed>
     ensures { Writes (W.held sink.old) (W.held sink.new) (W.faults sink.old) (W.faults sink.new) result (line_of status) }
@@ -39,6 +73,7 @@ pub fn write_report<W: Sink>(sink: &mut W, status: Status) -> Result<(), Failed>
             sink,
             b"usage: show, check, to-msg, to-tnef, wrap, unwrap, or sample N\n",
         ),
+        Status::Unfit(limit) => write_limit(sink, limit),
         Status::ReadFault => write_pieces(sink, b"read fault\n"),
         Status::WriteFault => write_pieces(sink, b"write fault\n"),
         Status::NoMemory => write_pieces(sink, b"no memory\n"),

@@ -1,11 +1,13 @@
-ghost use Rattle.std.specs.Prelude.{◌≡◌, ◌↔◌, ℕ, IfSome};
+ghost use Rattle.std.specs.Prelude.{◌≡◌, ◌↔◌, ℕ, Some, None, IfSome};
 ghost use Rattle.std.specs.Io.KnownBytes.{IsAtEnd};
 ghost use Rattle.carrier_io.specs.Causes.{Rose};
-ghost use Rattle.carrier_model.specs.Jobs.{IsJob, Accepts, FaultOf};
-ghost use Rattle.carrier_model.specs.Tree.{Message};
+ghost use Rattle.carrier_model.specs.Jobs.{IsJob};
+ghost use Rattle.carrier_model.specs.Limits as limits;
+ghost use Rattle.carrier_model.specs.TnefJobs.{Accepts, FaultOf};
+ghost use Rattle.carrier_model.specs.TnefMessage.{Meaning};
 ghost use Rattle.outlook_cli.specs.Words.{texts};
 ghost use Rattle.outlook_cli.specs.Report.{Reports, line_of};
-ghost use Rattle.outlook_cli.specs.Outcome.{Tells, WritesNothing, IsDone, IsRefused};
+ghost use Rattle.outlook_cli.specs.Outcome.{Tells, WritesNothing, IsDone, IsUnfit, IsRefused, stream_limit};
 
 use crate::report::write_report;
 use crate::status::Status;
@@ -47,7 +49,8 @@ fn answer<I: Source, O: Sink>(
     ensures usage { (result ≡ Status.Usage) ↔ (IsJob (texts words.now) → ⊥) }
     ensures unread { result ≡ Status.Usage → input.new ≡ input.old }
     ensures told { IfSome (I.left input.old) (λ bytes. Tells result bytes (O.held output.old) (O.held output.new)) }
-    ensures done { IsJob (texts words.now) → IfSome (I.left input.old) (λ bytes. (t : Message) → Accepts bytes t → IsDone result) }
+    ensures done { IsJob (texts words.now) → IfSome (I.left input.old) (λ bytes. (m : Meaning) → Accepts bytes m → stream_limit m.message ≡ None → IsDone result) }
+    ensures unfit { IsJob (texts words.now) → IfSome (I.left input.old) (λ bytes. (m : Meaning) (limit : limits.Limit) → Accepts bytes m → stream_limit m.message ≡ Some limit → IsUnfit limit result) }
     ensures refused { IsJob (texts words.now) → IfSome (I.left input.old) (λ bytes. (g : ℕ × ℕ) → FaultOf bytes g → IsRefused g result) }
     ensures end { result ≡ Status.Done → IsAtEnd (I.left input.new) }
     ensures nothing { WritesNothing result output.old output.new }
@@ -72,9 +75,10 @@ pub fn run<I: Source, O: Sink, E: Sink>(
     ensures usage { (result ≡ Status.Usage) ↔ (IsJob (texts words.now) → ⊥) }
     ensures unread { result ≡ Status.Usage → input.new ≡ input.old }
 
-    // Of an input that tells its bytes: what the status says, and the two answers that there are.
+    // Of an input that tells its bytes: what the status says, and the three answers that there are.
     ensures told { IfSome (I.left input.old) (λ bytes. Tells result bytes (O.held output.old) (O.held output.new)) }
-    ensures done { IsJob (texts words.now) → IfSome (I.left input.old) (λ bytes. (t : Message) → Accepts bytes t → IsDone result) }
+    ensures done { IsJob (texts words.now) → IfSome (I.left input.old) (λ bytes. (m : Meaning) → Accepts bytes m → stream_limit m.message ≡ None → IsDone result) }
+    ensures unfit { IsJob (texts words.now) → IfSome (I.left input.old) (λ bytes. (m : Meaning) (limit : limits.Limit) → Accepts bytes m → stream_limit m.message ≡ Some limit → IsUnfit limit result) }
     ensures refused { IsJob (texts words.now) → IfSome (I.left input.old) (λ bytes. (g : ℕ × ℕ) → FaultOf bytes g → IsRefused g result) }
     ensures end { result ≡ Status.Done → IsAtEnd (I.left input.new) }
 

@@ -1,4 +1,5 @@
 use carrier_io::Fault;
+use msg_tree::Limit;
 
 /// How a command ended.
 #[derive(Clone, Copy, Debug, PartialEq, Eq)]
@@ -6,6 +7,8 @@ pub enum Status {
     Done,
     Refused(Fault),
     Usage,
+    /// The message passes a limit of the target.
+    Unfit(Limit),
     ReadFault,
     WriteFault,
     NoMemory,
@@ -23,6 +26,7 @@ impl Status {
             Status::Done => 0,
             Status::Refused(_) => 1,
             Status::Usage => 2,
+            Status::Unfit(_) => 3,
             Status::ReadFault => 4,
             Status::WriteFault => 5,
             Status::NoMemory => 6,

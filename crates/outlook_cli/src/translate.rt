@@ -1,27 +1,28 @@
 //! The translation of bytes in hand.
-ghost use Rattle.std.specs.Prelude.{◌≡◌, ◌≤◌, length, IfOk};
+ghost use Rattle.std.specs.Prelude.{◌≡◌, ◌≤◌, length};
 ghost use Rattle.carrier_io.specs.Causes.{Rose};
 ghost use Rattle.carrier_io.specs.Reads.{Reads};
 ghost use Rattle.carrier_model.specs.Jobs as jobs;
-ghost use Rattle.carrier_model.specs.Jobs.{Accepts, FaultOf};
-ghost use Rattle.carrier_model.specs.Tnef.{IsBuiltMessage};
-ghost use Rattle.outlook_cli.specs.Outcome.{Tells, WritesNothing};
-ghost use Rattle.tnef_message.specs.Views.{message_in};
+ghost use Rattle.carrier_model.specs.Targets.{MOST_BYTES};
+ghost use Rattle.carrier_model.specs.TnefJobs.{Accepts, FaultOf};
+ghost use Rattle.msg_tree.specs.Whole.{plain_of};
+ghost use Rattle.outlook_cli.specs.Outcome.{Puts, Tells, WritesNothing};
+ghost use Rattle.tnef_message.specs.Views.{meaning_in};
 
 use crate::status::Status;
-use carrier_io::{Fault, Reason, Sink, Stop, u32_at};
-use msg_tree::Accepted;
+use carrier_io::{Blob, Fault, PlanEnd, Reason, Sink, Stop, u32_at, write_gathered};
+use msg_tree::{Accepted, Limit, Tree, fits_tnef, names};
 use std::alloc::Global;
 use tnef_message::{TnefPlan, read_tnef};
 
-/// Whether the bytes begin as a compound file (MS-CFB).
+/// Whether the bytes begin as a compound file. [MS-CFB 2.2]
 fn is_compound(bytes: &[u8]) -> bool
     ensures { result ≡ jobs.is_compound bytes.now }
 {
     bytes.len() >= 8 && u32_at(bytes, 0) == 0xe011_cfd0 && u32_at(bytes, 4) == 0xe11a_b1a1
 }
 
-/// Whether the bytes begin as a TNEF stream (MS-OXTNEF).
+/// Whether the bytes begin as a TNEF stream. [MS-OXTNEF 2.1.3]
 fn is_signed(bytes: &[u8]) -> bool
     ensures { result ≡ jobs.is_signed bytes.now }
 {
@@ -37,9 +38,8 @@ fn refused(reason: Reason) -> Stop
 
 /// The message that bytes in hand mean.
 fn accept<'a>(alloc: Global, bytes: &'a [u8]) -> Result<Accepted<&'a [u8]>, Stop>
-    requires { length bytes.now ≤ jobs.LIMIT }
-    ensures both { Reads message_in result (Accepts bytes.now) (FaultOf bytes.now) }
-    ensures built { IfOk result (λ a. IsBuiltMessage (message_in a)) }
+    requires { length bytes.now ≤ MOST_BYTES }
+    ensures { Reads meaning_in result (Accepts bytes.entry.now) (FaultOf bytes.entry.now) }
 {
     if is_compound(bytes) {
         return Err(refused(Reason::NotBuilt));
@@ -50,9 +50,33 @@ fn accept<'a>(alloc: Global, bytes: &'a [u8]) -> Result<Accepted<&'a [u8]>, Stop
     read_tnef(alloc, bytes)
 }
 
+/// Writes the canonical TNEF stream of a tree, unless it passes a limit.
+fn write_tnef<B: Blob, O: Sink>(alloc: Global, tree: &Tree<B>, output: &mut O) -> Status
+    ensures puts { Puts result (plain_of tree.now) (O.held output.old) (O.held output.new) }
+    ensures nothing { WritesNothing result output.old output.new }
+    ensures later { O.faults output.old ≤ O.faults output.new }
+    ensures fault { result ≡ Status.WriteFault → Rose (O.faults output.old) (O.faults output.new) }
+{
+    let names = match names(alloc, tree) {
+        Ok(names) => names,
+        Err(_) => return Status::NoMemory,
+    };
+    if let Some(limit) = fits_tnef(tree, &names) {
+        return Status::Unfit(limit);
+    }
+    match TnefPlan::new(alloc, tree, &names) {
+        Err(PlanEnd::TooLarge(size)) => Status::Unfit(Limit::Size(size)),
+        Err(PlanEnd::NoMemory) => Status::NoMemory,
+        Ok(plan) => match write_gathered(&plan, output) {
+            Ok(()) => Status::Done,
+            Err(_) => Status::WriteFault,
+        },
+    }
+}
+
 /// Translates bytes in hand to their canonical TNEF stream.
 pub fn translate<O: Sink>(alloc: Global, bytes: &[u8], output: &mut O) -> Status
-    requires { length bytes.now ≤ jobs.LIMIT }
+    requires { length bytes.now ≤ MOST_BYTES }
     ensures told { Tells result bytes.now (O.held output.old) (O.held output.new) }
     ensures nothing { WritesNothing result output.old output.new }
     ensures later { O.faults output.old ≤ O.faults output.new }
@@ -63,9 +87,6 @@ pub fn translate<O: Sink>(alloc: Global, bytes: &[u8], output: &mut O) -> Status
     match accept(alloc, bytes) {
         Err(Stop::Fault(g)) => Status::Refused(g),
         Err(Stop::NoMemory) => Status::NoMemory,
-        Ok(accepted) => match TnefPlan::new(&accepted.tree).write(output) {
-            Ok(()) => Status::Done,
-            Err(_) => Status::WriteFault,
-        },
+        Ok(accepted) => write_tnef(alloc, &accepted.tree, output),
     }
 }

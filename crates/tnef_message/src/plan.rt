@@ -4,7 +4,7 @@ ghost use Rattle.tnef_message.specs.Plans.{IsPlanned};
 
 use crate::sizes::message_size;
 use crate::stream::append_message;
-use carrier_io::{Blob, Failed, PlanEnd, Sink};
+use carrier_io::{Blob, Failed, PlanEnd, Sink, Writing};
 use msg_tree::Tree;
 use prop_names::NameSet;
 use std::alloc::Global;
@@ -68,5 +68,16 @@ impl<'t, B: Blob> TnefPlan<'t, B> {
             Ok(_) => Ok(()),
             Err(failed) => Err(failed),
         }
+    }
+}
+
+impl<'t, B: Blob> Writing for TnefPlan<'t, B> {
+    ghost use Rattle.carrier_model.specs.TnefCanonical.{tnef_of};
+    ghost use Rattle.tnef_message.specs.PlanViews.{tree_in};
+
+    ghost text = { λ p. tnef_of (tree_in p) };
+
+    fn write_to<W: Sink>(&self, sink: &mut W) -> Result<(), Failed> {
+        self.write(sink)
     }
 }

@@ -1,4 +1,6 @@
+use Rattle.tnef_message.specs.Views.{meaning_in}
+use Rattle.outlook_cli.proofs.Outcomes.{tells}
 use Rattle.outlook_cli.proofs.translate.translate.Goals as goal
 
-pub returns-in-Ok-write-clause-told : goal.returns-in-Ok-write-clause-told
-returns-in-Ok-write-clause-told g c = (_, c.in-Ok.ensures.both, rw c.new.ensures at c.in-Ok-write.ensures.ok)
+pub returns-in-Ok-clause-told : goal.returns-in-Ok-clause-told
+returns-in-Ok-clause-told g c = tells c.write_tnef.result _ _ _ (meaning_in c.in-Ok.accepted) c.in-Ok.ensures c.write_tnef.ensures.puts
