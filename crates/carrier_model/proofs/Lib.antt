@@ -1,8 +1,6 @@
 pub mod Acceptance
 pub mod Apart
 pub mod Attributes
-pub mod Built
-pub mod Canonical
 pub mod CanonicalKinds
 pub mod CanonicalLists
 pub mod CanonicalTnef
@@ -37,7 +35,6 @@ pub mod LaidStreams
 pub mod LaidStreamsFit
 pub mod LaidTables
 pub mod Lines
-pub mod Lists
 pub mod LoadedLaws
 pub mod MarkLaws
 pub mod Messages
@@ -67,8 +64,6 @@ pub mod SortedElements
 pub mod SortedLists
 pub mod Stream
 pub mod TableLaws
-pub mod Tnef
-pub mod TnefJobs
 pub mod TnefLists
 pub mod TnefMessage
 pub mod Trees

@@ -1,19 +1,16 @@
--- What a translation accepts and refuses, by the bytes alone.
+-- What is accepted as a TNEF stream, and what is refused, by the bytes alone. Compound files are not built.
+-- [MS-OXTNEF 2.1.3, MS-CFB 2.2]
 use Rattle.std.specs.Prelude.{◌≡◌, ◌⊎◌, ℕ, ◌<◌, ◌≤◌, ◌==◌, ◌&&◌, Bool, true, false, List, [], ◌∷◌, length, drop, nat_le, codes}
-use Rattle.carrier_model.specs.Reasons.{NOT_BUILT, NOT_A_CARRIER, INPUT_TOO_LONG}
-use Rattle.carrier_model.specs.Trail.{Fault}
-use Rattle.carrier_model.specs.Bytes.{number32}
 use Rattle.carrier_model.specs.Attributes.{SIGNATURE}
-use Rattle.carrier_model.specs.Tree.{Message}
-use Rattle.carrier_model.specs.Tnef.{TnefMeans, TnefFault}
+use Rattle.carrier_model.specs.Bytes.{number32}
+use Rattle.carrier_model.specs.Reasons.{NOT_BUILT, NOT_A_CARRIER, INPUT_TOO_LONG}
+use Rattle.carrier_model.specs.Targets.{MOST_BYTES}
+use Rattle.carrier_model.specs.TnefMessage.{Meaning, TnefCarrier, TnefFault}
+use Rattle.carrier_model.specs.Trail.{Fault}
 
 -- the words of the command that is built, as bytes: the one word `to-tnef`
 abbrev pub IsJob : List (List ℕ) → Type 0
 IsJob words = words ≡ codes "to-tnef" ∷ []
-
--- the most bytes of an input
-abbrev pub LIMIT : ℕ
-LIMIT = 268435456
 
 -- the bytes begin as a TNEF stream
 abbrev pub is_signed : List ℕ → Bool
@@ -23,9 +20,9 @@ is_signed bytes = nat_le 4 (length bytes) && (number32 bytes == SIGNATURE)
 abbrev pub is_compound : List ℕ → Bool
 is_compound bytes = nat_le 8 (length bytes) && ((number32 bytes == 0xe011cfd0) && (number32 (drop 4 bytes) == 0xe11ab1a1))
 
--- the bytes are few enough and mean the message
-abbrev pub Accepts : List ℕ → Message → Type 0
-Accepts bytes t = (length bytes ≤ LIMIT) × TnefMeans bytes t
+-- the bytes are few enough and carry the message, with things passed over
+abbrev pub Accepts : List ℕ → Meaning → Type 0
+Accepts bytes m = (length bytes ≤ MOST_BYTES) × TnefCarrier bytes m.message m.passed
 
 -- bytes in hand: a compound file, which is not built; neither signature; or the first fault of the stream
 abbrev pub CarrierFault : List ℕ → Fault → Type 0
@@ -36,4 +33,4 @@ CarrierFault bytes g =
 
 -- too many bytes, or the first fault of those in hand
 abbrev pub FaultOf : List ℕ → Fault → Type 0
-FaultOf bytes g = ((LIMIT < length bytes) × (g ≡ (INPUT_TOO_LONG, LIMIT))) ⊎ ((length bytes ≤ LIMIT) × CarrierFault bytes g)
+FaultOf bytes g = ((MOST_BYTES < length bytes) × (g ≡ (INPUT_TOO_LONG, MOST_BYTES))) ⊎ ((length bytes ≤ MOST_BYTES) × CarrierFault bytes g)

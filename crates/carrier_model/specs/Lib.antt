@@ -23,7 +23,6 @@ pub mod LegacyAttributes
 pub mod Limits
 pub mod Lines
 pub mod Links
-pub mod Lists
 pub mod Loads
 pub mod Lookups
 pub mod Marks
@@ -46,7 +45,6 @@ pub mod Sorted
 pub mod Streams
 pub mod Tables
 pub mod Targets
-pub mod Tnef
 pub mod TnefCanonical
 pub mod TnefLists
 pub mod TnefMessage
@@ -60,4 +58,3 @@ pub mod ValueTexts
 pub mod Values
 pub mod WrittenMsg
 pub mod WrittenNames
-pub mod TnefJobs

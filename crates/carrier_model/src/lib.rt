@@ -20,10 +20,7 @@ pub use file_laws::{
 };
 pub use file_rows::{faults_of_changed_chains, faults_of_changed_entries, the_smallest_file_opens};
 pub use job_laws::jobs_are_exact;
-pub use laws::{
-    acceptance_is_exact, attributes_are_exact, canonical_means_the_message, lists_are_exact,
-    messages_are_exact,
-};
+pub use laws::attributes_are_exact;
 pub use msg_laws::{
     files_mean_one_message, files_of_a_message_may_be_written, lists_of_storages_are_exact,
     messages_of_files_are_exact, msg_carriers_are_exact, msg_carriers_are_trees, names_are_exact,

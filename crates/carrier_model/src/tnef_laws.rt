@@ -6,7 +6,7 @@ ghost use Rattle.carrier_model.specs.Grammar.{Means};
 ghost use Rattle.carrier_model.specs.Keys.{Name};
 ghost use Rattle.carrier_model.specs.Targets.{passed_limit};
 ghost use Rattle.carrier_model.specs.TnefCanonical.{list_bytes, tnef_of};
-ghost use Rattle.carrier_model.specs.TnefJobs.{Accepts, FaultOf};
+ghost use Rattle.carrier_model.specs.Jobs.{Accepts, FaultOf};
 ghost use Rattle.carrier_model.specs.TnefLists.{prop_list, recipient_lists};
 ghost use Rattle.carrier_model.specs.TnefMessage.{message_within, Passed, TnefCarrier, TnefFault};
 ghost use Rattle.carrier_model.specs.Trail.{Fault, IsExact};

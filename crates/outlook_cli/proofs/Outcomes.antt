@@ -6,7 +6,7 @@ use Rattle.carrier_model.specs.Limits as limits
 use Rattle.carrier_model.specs.Limits.{first_limit, tnef_limits, too_large}
 use Rattle.carrier_model.specs.Targets.{MOST_BYTES, passed_size}
 use Rattle.carrier_model.specs.TnefCanonical.{tnef_of}
-use Rattle.carrier_model.specs.TnefJobs.{Accepts, FaultOf}
+use Rattle.carrier_model.specs.Jobs.{Accepts, FaultOf}
 use Rattle.carrier_model.specs.TnefMessage.{Meaning}
 use Rattle.carrier_model.specs.Totals.{capped}
 use Rattle.carrier_model.specs.Tree.{Message}

@@ -8,7 +8,7 @@ use Rattle.carrier_model.specs.Commands.{to_tnef}
 use Rattle.carrier_model.specs.Limits as limits
 use Rattle.carrier_model.specs.Targets.{passed_limit}
 use Rattle.carrier_model.specs.TnefCanonical.{tnef_of}
-use Rattle.carrier_model.specs.TnefJobs.{Accepts, FaultOf}
+use Rattle.carrier_model.specs.Jobs.{Accepts, FaultOf}
 use Rattle.carrier_model.specs.TnefMessage.{Meaning}
 use Rattle.carrier_model.specs.Tree.{Message}
 use Rattle.msg_tree.specs.Limiting.{limit_of}

@@ -63,12 +63,7 @@ pub fn plain_gift<'a>(
         return Ok(Gift::MessageList(list.props));
     }
     if attribute.id == RECIPIENT_TABLE {
-        return Ok(Gift::RecipientTable(recipients_in(
-            alloc,
-            attribute.bytes,
-            at,
-            passed,
-        )?));
+        return Ok(Gift::RecipientTable(recipients_in(alloc, attribute.bytes, at, passed)?));
     }
     match role_of(attribute.id) {
         Role::Unknown => {

@@ -207,11 +207,7 @@ impl<'a> Draft<'a> {
     }
 
     /// Enters an attribute of the attachment that is being read.
-    fn enter_current(
-        &mut self,
-        attribute: &Attribute<'a>,
-        gift: Gift<'a>,
-    ) -> Result<(), NoMemory>
+    fn enter_current(&mut self, attribute: &Attribute<'a>, gift: Gift<'a>) -> Result<(), NoMemory>
         requires { length attribute.now.bytes.now < 268435456 }
         ensures { OnOk result (CurrentEntered attribute.now.id attribute.now.bytes.now gift.entry self.old self.new) }
     {

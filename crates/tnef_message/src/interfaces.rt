@@ -11,7 +11,9 @@ use tnef_props::Object;
 const STORAGE: [u8; 16] = [0x0b, 0, 0, 0, 0, 0, 0, 0, 0xc0, 0, 0, 0, 0, 0, 0, 0x46];
 
 /// {00020307-0000-0000-C000-000000000046}: a message follows.
-const MESSAGE: [u8; 16] = [0x07, 0x03, 0x02, 0, 0, 0, 0, 0, 0xc0, 0, 0, 0, 0, 0, 0, 0x46];
+const MESSAGE: [u8; 16] = [
+    0x07, 0x03, 0x02, 0, 0, 0, 0, 0, 0xc0, 0, 0, 0, 0, 0, 0, 0x46,
+];
 
 /// Whether bytes begin with an interface's id.
 fn has_interface(bytes: &[u8], id: &[u8]) -> bool

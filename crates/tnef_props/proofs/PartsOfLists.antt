@@ -46,7 +46,6 @@ cut_parts R f x when other (p ∷ l) (suc n) c =
     let rest = cut_parts R f x when other l n (record { in_range = omega (arith, c.in_range); below = λ j d lt. c.below (suc j) d (omega arith); others = λ j d le lt. c.others (suc j) d (omega arith) (omega arith) }) in
     record { front = rw is (ap (λ (z : List _). p ∷ z) rest.front); back = rw is rest.back }
 
-
 pub before_object : (p : Prop) → prop_cmp p (with_pair (id 0x3701) 0x000D) ≡ Less → comes_before_object p ≡ true
 before_object p e = by (key_cmp p.key (id 0x3701)) e
   where

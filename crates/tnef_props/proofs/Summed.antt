@@ -87,7 +87,7 @@ joined_parts : (part : ℕ → List ℕ) (k count : ℕ) → k < count → (z : 
 joined_parts part k zero lt = absurd (omega (arith, lt))
 joined_parts part k (suc count) lt = elim (cases_lt k count) [
   | inl h ↦ let p = joined_parts part k count h in
-    (p.0 ++ part count, ap (λ (z : List ℕ). z ++ part count) p.1 ∙ append_assoc (joined part k) (part k ++ p.0) (part count) ∙ ap (λ (z : List ℕ). joined part k ++ z) (append_assoc (part k) p.0 (part count)))
+      (p.0 ++ part count, ap (λ (z : List ℕ). z ++ part count) p.1 ∙ append_assoc (joined part k) (part k ++ p.0) (part count) ∙ ap (λ (z : List ℕ). joined part k ++ z) (append_assoc (part k) p.0 (part count)))
   | inr h ↦ let e : count ≡ k = omega arith in rw e ([], ap (λ (z : List ℕ). joined part k ++ z) (sym (append-nil (part k))))
 ]
 

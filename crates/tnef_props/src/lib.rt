@@ -14,8 +14,8 @@ mod shapes;
 mod sizes;
 mod texts;
 mod values;
-mod writing_values;
 mod writing_keys;
+mod writing_values;
 
 pub use list::read_list;
 pub use object::{Object, ReadList};

@@ -92,12 +92,13 @@ fn a_list_is_written(rt: HostRuntime) -> Result<(), Fail> {
     write_range(&mut sink, &props, &names, 0, 1)
         .ok()
         .ok_or("room")?;
-    let wanted = [
-        0x1f, 0, 0x34, 0x12, 1, 0, 0, 0, 4, 0, 0, 0, 0x41, 0, 0, 0,
-    ];
+    let wanted = [0x1f, 0, 0x34, 0x12, 1, 0, 0, 0, 4, 0, 0, 0, 0x41, 0, 0, 0];
     assert_eq!(rt; sink.bytes(), wanted.as_slice());
     assert_eq!(rt; range_sum(&props, &names, 0, 1), 0xab);
-    assert_eq!(rt; (list_size(&props, None), list_size(&props, Some(16))), (20, 48));
+    assert_eq!(rt;
+        (list_size(&props, None), list_size(&props, Some(16))),
+        (20, 48)
+    );
     assert_eq!(rt; object_place(&props), 1);
     Ok(())
 }

@@ -102,11 +102,7 @@ fn append_guids<W: Sink>(sink: &mut W, list: &Guids) -> Result<u16, Failed>
 }
 
 /// Appends texts.
-fn append_texts<B: Blob, W: Sink>(
-    sink: &mut W,
-    null: usize,
-    list: &Parts<B>,
-) -> Result<u16, Failed>
+fn append_texts<B: Blob, W: Sink>(sink: &mut W, null: usize, list: &Parts<B>) -> Result<u16, Failed>
     requires null { null ≤ 2 }
     requires short { All (λ x. length x < 0x4000_0000) list.now }
     ensures { Sums (W.held sink.old) (W.held sink.new) (W.faults sink.old) (W.faults sink.new) result (flat_map (text_field null) list.now) }

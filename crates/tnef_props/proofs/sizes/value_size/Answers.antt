@@ -17,6 +17,5 @@ returns-in-Guids g c =
     let e = each_length (λ (g : List ℕ). g) 16 _ valid.0 in
     rw c.in-Guids.is (omega (arith, e, c.len-in-Guids.ensures, valid.1))
 
-
 pub returns-in-Parts : goal.returns-in-Parts
 returns-in-Parts g c = rw c.in-Parts.is (omega (arith, rw c.part_null_size.ensures at c.texts_size.ensures))
