@@ -4,7 +4,7 @@ use Rattle.std.proofs.lemmas.Bool.{both_ways, and_parts, eqb-true}
 use Rattle.carrier_model.specs.Attributes.{SIGNATURE, head_tests}
 use Rattle.carrier_model.specs.Bytes.{number32}
 use Rattle.carrier_model.specs.Jobs.{is_signed, is_compound, Accepts, CarrierFault, FaultOf}
-use Rattle.carrier_model.specs.TnefMessage.{Meaning, TnefCarrier, TnefFault, StreamMeans, message_within, GREATEST_LEVEL}
+use Rattle.carrier_model.specs.TnefMessage.{Meaning, TnefCarrier, message_within, GREATEST_LEVEL}
 use Rattle.carrier_model.specs.Trail.{Fault, IsExact}
 use Rattle.carrier_model.proofs.Attributes.{passing}
 use Rattle.carrier_model.proofs.Stream.{parts_of}
