@@ -23,7 +23,7 @@ use Rattle.cfb_sectors.specs.States.{State, entries, entry_of, place_of, chain_c
 use Rattle.cfb_sectors.specs.Views.{entry as entry_seen}
 use Rattle.cfb_directory.specs.Walks.{directory_of}
 use Rattle.cfb_directory.specs.Nodes.{is_wanted, claims_in, chain_lengths, AreNodes, entry_in, place_in, stream_in}
-use Rattle.cfb_directory.specs.declared.nodes.Node.{Node}
+use Rattle.cfb_directory.specs.declared.node.Node.{Node}
 
 abbrev pub ahead : List Claim → Result (List Claim) Fault → Result (List Claim) Fault
 ahead cs (Ok rest) = Ok (cs ++ rest)

@@ -2,8 +2,10 @@ pub mod BothSides
 pub mod ClaimSteps
 pub mod FamilyLaws
 pub mod KidLaws
+pub mod LookupLaws
 pub mod NameLaws
 pub mod OpenLaws
 pub mod OutlineLaws
 pub mod TreeLaws
 pub mod WalkLaws
+pub mod WantedLaws

@@ -32,7 +32,7 @@ use Rattle.cfb_directory.specs.Shapes.{table_of, key_in, deepest, tree_at, shape
 use Rattle.cfb_directory.specs.Trees.{Table, built, under, ends}
 use Rattle.cfb_directory.specs.Walks.{directory_of}
 use Rattle.cfb_directory.specs.declared.families.Family.{Family}
-use Rattle.cfb_directory.specs.declared.nodes.Node.{Node}
+use Rattle.cfb_directory.specs.declared.node.Node.{Node}
 use Rattle.cfb_directory.specs.declared.outline.Outline.{Outline}
 use Rattle.cfb_directory.proofs.KidLaws.{in-left, in-right, self}
 use Rattle.cfb_directory.proofs.NameLaws.{families_apart}

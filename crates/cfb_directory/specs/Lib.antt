@@ -1,4 +1,5 @@
 pub mod Families
+pub mod Found
 pub mod Named
 pub mod Nodes
 pub mod Outlines
@@ -6,3 +7,4 @@ pub mod Shapes
 pub mod Shown
 pub mod Trees
 pub mod Walks
+pub mod Wanted

@@ -13,7 +13,7 @@ use Rattle.cfb_sectors.specs.Seen.{stream as stream_seen}
 use Rattle.cfb_sectors.specs.States.{State, entry_of, place_of}
 use Rattle.cfb_sectors.specs.Views.{entry as entry_seen}
 use Rattle.cfb_directory.specs.Walks.{directory_of}
-use Rattle.cfb_directory.specs.declared.nodes.Node.{Node}
+use Rattle.cfb_directory.specs.declared.node.Node.{Node}
 use Rattle.std.specs.declared.vec.Vec.{Vec}
 use Rattle.std.specs.declared.alloc.Global.{Global}
 

@@ -5,7 +5,7 @@ use Rattle.cfb_directory.specs.Families.{family_at}
 use Rattle.cfb_directory.specs.Nodes.{entry_in, place_in, stream_in}
 use Rattle.cfb_directory.specs.Trees.{Table, under}
 use Rattle.cfb_directory.specs.declared.families.Family.{Family}
-use Rattle.cfb_directory.specs.declared.nodes.Node.{Node}
+use Rattle.cfb_directory.specs.declared.node.Node.{Node}
 
 abbrev pub table_of : List Node → List Family → Table
 table_of nodes families = record { kids = family_at families; entry = entry_in nodes; place = place_in nodes; stream = stream_in nodes }

@@ -6,7 +6,7 @@ ghost use Rattle.cfb_directory.specs.Shapes.{key_in, deepest};
 ghost use Rattle.cfb_directory.specs.Trees.{ends};
 
 use crate::families::Family;
-use crate::nodes::Node;
+use crate::node::Node;
 
 /// The storages and streams of a compound file. An entry of its directory goes by its number, and so does its family.
 #[derive(Drop)]

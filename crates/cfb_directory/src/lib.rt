@@ -1,19 +1,21 @@
-//! The directory of a compound file: its entries as they are linked.
+//! The directory of a compound file: its storages and streams.
 #![tactic(auto)]
 
 mod families;
 mod files;
 mod links;
+mod lookups;
 mod names;
+mod node;
 mod nodes;
 mod opening;
 mod outline;
 mod walk;
+mod wanted;
 
 pub use files::Files;
-pub use links::{Link, Member, Walked};
+pub use lookups::{Child, StorageId};
 pub use opening::open_files;
-pub use walk::walk_directory;
 
 #[cfg(test)]
 mod tests;

@@ -21,7 +21,7 @@ pub struct NameIndex {
 }
 
 /// A unit, in lower case where it is an ASCII letter.
-fn lower(unit: u16) -> u16
+pub fn lower(unit: u16) -> u16
     ensures { result ≡ to_ascii_lowercase unit }
 {
     if unit >= 65 && unit <= 90 {

@@ -1,4 +1,4 @@
-//! The entries of a directory with their streams.
+//! The streams of a directory claimed.
 ghost use Rattle.std.specs.Prelude.{◌≡◌, ◌+◌, ◌≤◌, ◌<◌, ◌&&◌, ℕ, List, length, filter, get_or, false, nat_eq, vec_len, IfOk};
 ghost use Rattle.std.specs.List.{range_with_len};
 ghost use Rattle.carrier_model.specs.Marks.{Marks, unmarked};
@@ -6,17 +6,10 @@ ghost use Rattle.cfb_sectors.specs.States.{entries};
 ghost use Rattle.cfb_directory.specs.Nodes.{is_wanted, claims_in, AreClaimed};
 ghost use Rattle.cfb_directory.specs.Walks.{directory_of};
 
+use crate::node::Node;
 use carrier_io::{Stop, Walk};
 use cfb_sectors::{Entry, SectorMarks, Sectors, StreamView};
 use std::alloc::Global;
-
-/// An entry, its file offset, and its stream, which is empty where it has none.
-#[derive(Drop)]
-pub struct Node<'a> {
-    pub entry: Entry,
-    pub place: u64,
-    pub stream: StreamView<'a>,
-}
 
 /// Whether an entry is a stream that was visited.
 fn is_visited_stream(visited: &SectorMarks, id: u32, entry: &Entry) -> bool

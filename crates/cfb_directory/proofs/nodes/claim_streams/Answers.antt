@@ -4,7 +4,7 @@ use Rattle.cfb_sectors.specs.States.{entries}
 use Rattle.cfb_sectors.specs.Views.{entry as entry_seen}
 use Rattle.cfb_directory.specs.Nodes.{is_wanted}
 use Rattle.cfb_directory.specs.Walks.{directory_of}
-use Rattle.cfb_directory.specs.declared.nodes.Node.{Node}
+use Rattle.cfb_directory.specs.declared.node.Node.{Node}
 use Rattle.cfb_directory.proofs.ClaimSteps.{same-again, wanted_is, progress_init, progress_done, skip_step, claim_step, stop_step, within}
 use Rattle.cfb_directory.proofs.nodes.claim_streams.Goals as goal
 use Rattle.cfb_directory.proofs.nodes.claim_streams.Goals.{then-is_visited_stream+in_ok-stream+in_ok-push, else-is_visited_stream+in_ok-push-2}
@@ -36,20 +36,18 @@ loop-id-preserved c =
     let last : length c.loop-id.nodes.items ≡ i = search rules in
     elim c.if-is_visited_stream.branch [
       | then-is_visited_stream+in_ok-stream+in_ok-push w ↦
-          let node : Node = record { entry = c.entry-entry.result; place = c.entry_offset-place.result; stream = w.in_ok-stream.stream } in
           rw (w.sectors-is, w.walk-is, w.nodes-is) (record {
             same = same-again s c.loop-id.sectors w.claim.new.self c.loop-id.invariant.same w.in_ok-stream.ensures.same;
             count = search rules;
             bounded = omega arith;
-            so_far = λ long short h k. rw w.in_ok-push.ensures.items (claim_step s c.loop-id.sectors _ _ i c.loop-id.nodes.items node _ _ _ _ _ c.loop-id.invariant.same (c.loop-id.invariant.so_far long short h k) inside last (wanted ∙ w.if-is_visited_stream.true) c.entry-entry.ensures c.entry_offset-place.ensures.place w.in_ok-stream.ensures.answer w.in_ok-stream.ensures.marked w.in_ok-stream.ensures.steps);
+            so_far = λ long short h k. rw w.in_ok-push.ensures.items (claim_step s c.loop-id.sectors _ _ i c.loop-id.nodes.items _ _ _ _ _ _ c.loop-id.invariant.same (c.loop-id.invariant.so_far long short h k) inside last (wanted ∙ w.if-is_visited_stream.true) c.entry-entry.ensures c.entry_offset-place.ensures.place w.in_ok-stream.ensures.answer w.in_ok-stream.ensures.marked w.in_ok-stream.ensures.steps);
           })
       | else-is_visited_stream+in_ok-push-2 w ↦
-          let node : Node = record { entry = c.entry-entry.result; place = c.entry_offset-place.result; stream = w.empty.result } in
           rw (w.sectors-is, w.walk-is, w.nodes-is) (record {
             same = c.loop-id.invariant.same;
             count = search rules;
             bounded = c.loop-id.invariant.bounded;
-            so_far = λ long short h k. rw w.in_ok-push-2.ensures.items (skip_step s c.loop-id.sectors _ _ i c.loop-id.nodes.items node _ _ c.loop-id.invariant.same (c.loop-id.invariant.so_far long short h k) inside last (wanted ∙ w.if-is_visited_stream.false) c.entry-entry.ensures c.entry_offset-place.ensures.place);
+            so_far = λ long short h k. rw w.in_ok-push-2.ensures.items (skip_step s c.loop-id.sectors _ _ i c.loop-id.nodes.items _ _ _ c.loop-id.invariant.same (c.loop-id.invariant.so_far long short h k) inside last (wanted ∙ w.if-is_visited_stream.false) c.entry-entry.ensures c.entry_offset-place.ensures.place);
           })
     ]
 

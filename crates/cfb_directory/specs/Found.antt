@@ -1,0 +1,33 @@
+-- Storages of opened files, and their children.
+use Rattle.std.specs.Prelude.{ℕ, ◌<◌, List, [], ◌∷◌, Option, None, Some, vec_len}
+use Rattle.std.specs.Option.{option_map}
+use Rattle.carrier_model.specs.Files as plain
+use Rattle.carrier_model.specs.Files.{Children, none, storage, stream}
+use Rattle.carrier_model.specs.Lookups.{storage_at}
+use Rattle.cfb_directory.specs.Nodes.{place_in}
+use Rattle.cfb_directory.specs.Shapes.{tree_at}
+use Rattle.cfb_directory.specs.declared.files.Files.{Files}
+use Rattle.cfb_directory.specs.declared.lookups.Child as rust
+use Rattle.cfb_directory.specs.declared.lookups.StorageId.{StorageId}
+
+-- a storage of these files
+abbrev pub IsThere : Files → StorageId → Type 0
+IsThere f at = at.entry < vec_len f.nodes
+
+-- where its entry lies, and what is below it
+abbrev pub storage_seen : Files → StorageId → plain.Files
+storage_seen f at = record { place = place_in f.nodes.items at.entry; children = tree_at f.nodes.items f.families.items at.entry }
+
+-- a child's name, and the storage that it is, if it is one
+pub record Child : Type 0 where
+  pub name : List ℕ
+  pub storage : Option plain.Files
+
+abbrev pub child_seen : Files → rust.Child → Child
+child_seen f c = record { name = c.units.now; storage = option_map (storage_seen f) c.storage }
+
+-- the children of a storage, one after another
+abbrev pub children_list : Children → List Child
+children_list none = []
+children_list (storage tag below rest) = record { name = tag.name; storage = Some (storage_at tag below) } ∷ children_list rest
+children_list (stream tag s rest) = record { name = tag.name; storage = None } ∷ children_list rest

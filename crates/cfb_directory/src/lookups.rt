@@ -1,0 +1,126 @@
+//! Storages and streams looked up.
+ghost use Rattle.std.specs.Prelude.{◌≡◌, ◌<◌, ◌+◌, ℕ, List, IfSome, Some, None, slice_get, vec_len, if◌then◌else◌};
+ghost use Rattle.std.specs.Option.{option_map};
+ghost use Rattle.std.specs.String.{IsUtf16Of};
+ghost use Rattle.carrier_model.specs.Files.{folded};
+ghost use Rattle.carrier_model.specs.Links.{is_storage};
+ghost use Rattle.carrier_model.specs.Lookups.{storage_named, stream_named, size_place};
+ghost use Rattle.cfb_sectors.specs.Seen.{stream as stream_seen};
+ghost use Rattle.cfb_directory.specs.Families.{family_at};
+ghost use Rattle.cfb_directory.specs.Named.{first_named};
+ghost use Rattle.cfb_directory.specs.Nodes.{entry_in};
+ghost use Rattle.cfb_directory.specs.Shapes.{key_in};
+ghost use Rattle.cfb_directory.specs.Shown.{files};
+ghost use Rattle.cfb_directory.specs.Found.{IsThere, storage_seen, child_seen, children_list};
+
+use crate::files::Files;
+use crate::names::name;
+use crate::outline::ROOT;
+use crate::wanted::wanted_name;
+use cfb_sectors::StreamView;
+
+/// A storage of a value `Files`.
+#[derive(Clone, Copy)]
+pub struct StorageId {
+    entry: u32,
+}
+
+/// A child of a storage: the units of its name, and which storage it is, if it is one.
+#[derive(Clone, Copy)]
+pub struct Child<'f> {
+    pub units: &'f [u16],
+    pub storage: Option<StorageId>,
+}
+
+const STORAGE: u8 = 1;
+
+impl<'a> Files<'a> {
+    /// The storage that all others are in.
+    pub fn root(&self) -> StorageId
+        ensures seen { storage_seen self.now result ≡ files self.now }
+        ensures there { IsThere self.now result }
+    {
+        StorageId { entry: ROOT }
+    }
+
+    /// The child of a storage that has this name, up to the case of ASCII letters.
+    fn named(&self, at: StorageId, text: &str) -> Option<u32>
+        requires { IsThere self.now at }
+        ensures named { (units : List ℕ) → IsUtf16Of units text.now → result ≡ first_named (key_in self.now.nodes.items) (folded units) (family_at self.now.families.items at.entry) }
+        ensures inside { IfSome result (λ id. id < vec_len self.now.nodes) }
+    {
+        let text = wanted_name(text)?;
+        self.families[at.entry as usize].names.get(text.units())
+    }
+
+    /// The storage that an entry is, if it is one.
+    fn as_storage(&self, entry: u32) -> Option<StorageId>
+        requires { entry < vec_len self.now.nodes }
+        ensures { result ≡ (if is_storage (entry_in self.now.nodes.items entry) then Some (record { entry = entry }) else None) }
+    {
+        if self.nodes[entry as usize].entry.kind == STORAGE {
+            Some(StorageId { entry })
+        } else {
+            None
+        }
+    }
+
+    /// The storage of this name in a storage, up to the case of ASCII letters.
+    pub fn storage(&self, at: StorageId, name: &str) -> Option<StorageId>
+        requires { IsThere self.now at }
+        ensures found { (units : List ℕ) → IsUtf16Of units name.now → option_map (storage_seen self.now) result ≡ storage_named (storage_seen self.now at).children units }
+        ensures there { IfSome result (IsThere self.now) }
+    {
+        let entry = self.named(at, name)?;
+        self.as_storage(entry)
+    }
+
+    /// The stream of this name in a storage, up to the case of ASCII letters.
+    pub fn stream(&self, at: StorageId, name: &str) -> Option<&StreamView<'a>>
+        requires { IsThere self.now at }
+        ensures found { (units : List ℕ) → IsUtf16Of units name.now → option_map (λ v. stream_seen v.now) result ≡ option_map (λ f. f.stream) (stream_named (storage_seen self.now at).children units) }
+    {
+        let entry = self.named(at, name)?;
+        let node = &self.nodes[entry as usize];
+        if node.entry.kind == STORAGE {
+            None
+        } else {
+            Some(&node.stream)
+        }
+    }
+
+    /// The child of a storage at a place in sibling order, from 0.
+    pub fn child(&self, at: StorageId, k: usize) -> Option<Child<'_>>
+        requires { IsThere self.now at }
+        ensures found { option_map (child_seen self.now) result ≡ slice_get (children_list (storage_seen self.now at).children) k }
+        ensures there { IfSome result (λ c. IfSome c.storage (IsThere self.now)) }
+    {
+        let entry = *self.families[at.entry as usize].children.get(k)?;
+        Some(Child {
+            units: name(&self.nodes[entry as usize].entry),
+            storage: self.as_storage(entry),
+        })
+    }
+
+    /// The file offset of a storage's entry.
+    pub fn storage_offset(&self, at: StorageId) -> u64
+        requires { IsThere self.now at }
+        ensures { result ≡ (storage_seen self.now at).place }
+    {
+        self.nodes[at.entry as usize].place
+    }
+
+    /// The file offset of the size of a stream, in its entry.
+    pub fn size_offset(&self, at: StorageId, name: &str) -> Option<u64>
+        requires { IsThere self.now at }
+        ensures { (units : List ℕ) → IsUtf16Of units name.now → result ≡ option_map size_place (stream_named (storage_seen self.now at).children units) }
+    {
+        let entry = self.named(at, name)?;
+        let node = &self.nodes[entry as usize];
+        if node.entry.kind == STORAGE {
+            None
+        } else {
+            Some(node.place + 120)
+        }
+    }
+}
