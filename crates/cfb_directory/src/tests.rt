@@ -1,6 +1,5 @@
-use crate::{Link, walk_directory};
-use carrier_io::{Fault, Reason, Stop, Walk};
-use cfb_sectors::{SectorMarks, Sectors};
+use crate::{Files, open_files};
+use carrier_io::{Blob, Fault, Reason, Stop, Walk};
 use std::alloc::{AllocError, Global};
 use std::test::*;
 
@@ -8,20 +7,44 @@ const FREE: u32 = 0xFFFF_FFFF;
 
 const END: u32 = 0xFFFF_FFFE;
 
+const PROPERTIES: &str = "__properties_version1.0";
+
 /// Writes a number in four bytes.
-fn put(file: &mut Vec<u8>, at: u16, value: u32) {
+fn put(file: &mut Vec<u8>, at: u32, value: u32) {
     for (i, byte) in value.to_le_bytes().iter().enumerate() {
-        if let Some(slot) = file.get_mut(usize::from(at) + i) {
+        if let Some(slot) = file.get_mut(at as usize + i) {
             *slot = *byte;
         }
     }
 }
 
-/// A file of 3,072 bytes without names: the table in sector 0, the directory in 1 and 2. The root has a storage, entry 1,
-/// with three streams, 2 to 4, and a stream, entry 5.
+/// Writes a name, each character in two bytes.
+fn put_name(file: &mut Vec<u8>, at: u32, name: &[u8; 23]) {
+    for (i, byte) in name.iter().enumerate() {
+        if let Some(slot) = file.get_mut(at as usize + 2 * i) {
+            *slot = *byte;
+        }
+    }
+}
+
+/// An entry's kind and its name's length, and the left, right and child link.
+fn put_entry(file: &mut Vec<u8>, at: u16, kind: u32, left: u32, right: u32, child: u32) {
+    let at = u32::from(at);
+    put(file, at + 64, kind);
+    put(file, at + 68, left);
+    put(file, at + 72, right);
+    put(file, at + 76, child);
+}
+
+/// A file of 3,072 bytes: the table in sector 0, the directory in 1 and 2, the mini FAT in 3, the mini stream in 4. The
+/// root has a storage, entry 1, with three empty streams, 2 to 4, and a stream of 32 bytes, entry 5.
 fn small_file(alloc: Global) -> Result<Vec<u8>, AllocError> {
     let mut file = vec![in alloc; 0; 3072]?;
-    let header = [
+    for i in 0..128u32 {
+        put(&mut file, 512 + 4 * i, FREE);
+        put(&mut file, 2048 + 4 * i, FREE);
+    }
+    let words = [
         (0, 0xE011_CFD0),
         (4, 0xE11A_B1A1),
         (24, 0x0003_003E),
@@ -30,73 +53,213 @@ fn small_file(alloc: Global) -> Result<Vec<u8>, AllocError> {
         (44, 1),
         (48, 1),
         (56, 4096),
+        (60, 3),
+        (68, END),
         (512, 0xFFFF_FFFD),
         (516, 2),
         (520, END),
+        (524, END),
+        (528, END),
+        (1140, 4),
+        (1144, 64),
+        (1784, 32),
+        (2048, END),
     ];
-    // The kind and the name's length, and the left, right and child link.
-    let entries: [(u16, u32, u32, u32, u32); 6] = [
-        (1024, 0x0105_0016, FREE, FREE, 1),
-        (1152, 0x0101_0028, FREE, 5, 3),
-        (1280, 0x0102_0028, FREE, FREE, FREE),
-        (1408, 0x0102_0028, 2, 4, FREE),
-        (1536, 0x0102_0028, FREE, FREE, FREE),
-        (1664, 0x0102_0030, FREE, FREE, FREE),
-    ];
-    for (at, value) in header {
+    for (at, value) in words {
         put(&mut file, at, value);
     }
-    for (at, kind, left, right, child) in entries {
-        put(&mut file, at.wrapping_add(64), kind);
-        put(&mut file, at.wrapping_add(68), left);
-        put(&mut file, at.wrapping_add(72), right);
-        put(&mut file, at.wrapping_add(76), child);
-    }
+    put_entry(&mut file, 1024, 0x0105_0016, FREE, FREE, 1);
+    put_entry(&mut file, 1152, 0x0101_0028, FREE, 5, 3);
+    put_entry(&mut file, 1280, 0x0102_002A, FREE, FREE, FREE);
+    put_entry(&mut file, 1408, 0x0102_002A, 2, 4, FREE);
+    put_entry(&mut file, 1536, 0x0102_002A, FREE, FREE, FREE);
+    put_entry(&mut file, 1664, 0x0102_0030, FREE, FREE, FREE);
+    put_name(&mut file, 1152, b"__nameid_version1.0\0\0\0\0");
+    put_name(&mut file, 1280, b"__substg1.0_00020102\0\0\0");
+    put_name(&mut file, 1408, b"__substg1.0_00030102\0\0\0");
+    put_name(&mut file, 1536, b"__substg1.0_00040102\0\0\0");
+    put_name(&mut file, 1664, b"__properties_version1.0");
     Ok(file)
 }
 
-/// What the walk from the root's child link gives, after a change of one number: how many entries, or its fault.
-fn walked(alloc: Global, at: u16, value: u32) -> Result<Result<usize, Fault>, Fail> {
+/// The fault of the first so many bytes of that file, after two changes of it.
+fn refusal(
+    alloc: Global,
+    first: (u32, u32),
+    second: (u32, u32),
+    len: usize,
+) -> Result<Option<Fault>, Fail> {
     let mut file = small_file(alloc)?;
-    put(&mut file, at, value);
+    put(&mut file, first.0, first.1);
+    put(&mut file, second.0, second.1);
+    file.truncate(len);
     let bytes = file.as_slice();
     if bytes.len() > 3072 {
         return Err("too long")?;
     }
-    let mut walk = Walk::new();
-    let sectors = Sectors::load(alloc, bytes, &mut walk)?;
-    let mut marks = SectorMarks::new(alloc, sectors.entries() as usize)?;
-    if sectors.entries() < 1 {
-        return Err("no root")?;
-    }
-    marks.mark(0);
-    let first = Link {
-        target: 1,
-        place: 1100,
-        depth: 1,
-        parent: 0,
-    };
-    match walk_directory(alloc, &sectors, first, &mut marks) {
-        Ok(walked) => Ok(Ok(walked.order.len())),
-        Err(Stop::Fault(fault)) => Ok(Err(fault)),
+    match open_files(alloc, bytes, &mut Walk::new()) {
+        Ok(_) => Ok(None),
+        Err(Stop::Fault(fault)) => Ok(Some(fault)),
         Err(Stop::NoMemory) => Err("memory")?,
     }
 }
 
 #[test]
-fn links(rt: HostRuntime) -> Result<(), Fail> {
+fn changes(rt: HostRuntime) -> Result<(), Fail> {
     let rows = [
         (1220, 1, Reason::EntryShared, 1220),
         (1224, 8, Reason::EntryOutOfRange, 1224),
         (1728, 0x0105_0030, Reason::BadEntryType, 1730),
+        (1564, 0x0033_0030, Reason::DoubleName, 1536),
         (1728, 0x0102_0003, Reason::BadName, 1728),
+        (24, 0x0004_003E, Reason::BadVersion, 26),
+        (28, 0x000C_FFFE, Reason::BadHeader, 30),
+        (44, 0, Reason::BadFatCount, 44),
+        (44, 6, Reason::BadFatCount, 44),
+        (76, 5, Reason::SectorOutOfRange, 76),
+        (48, 0, Reason::Shared, 48),
+        (48, END, Reason::ShortChain, 48),
+        (60, 1, Reason::Shared, 60),
+        (1140, 3, Reason::Shared, 1140),
+        (524, 3, Reason::Cycle, 524),
+        (528, 5, Reason::SectorOutOfRange, 528),
+        (1780, 1, Reason::SectorOutOfRange, 1780),
+        (2048, 0, Reason::Cycle, 2048),
+        (1784, 65, Reason::ShortChain, 2048),
     ];
     for (at, value, reason, offset) in rows {
-        let fault = walked(rt.alloc(), at, value)?.err().ok_or("a fault")?;
+        let fault = refusal(rt.alloc(), (at, value), (at, value), 3072)?.ok_or("a fault")?;
         assert_eq!(rt; fault.reason, reason, "at {at}");
         assert_eq!(rt; fault.offset, offset, "at {at}");
     }
-    let count = walked(rt.alloc(), 3000, 0)?.ok().ok_or("a walk")?;
-    assert_eq!(rt; count, 5);
+    Ok(())
+}
+
+#[test]
+fn pairs_and_cuts(rt: HostRuntime) -> Result<(), Fail> {
+    let same = (0, 0xE011_CFD0);
+    let rows = [
+        ((1396, 0), (1400, 1), 3072, Reason::Shared, 1780),
+        ((1144, 48), (1784, 64), 3072, Reason::FileTruncated, 1784),
+        (same, same, 511, Reason::FileTruncated, 511),
+        (same, same, 2623, Reason::FileTruncated, 1144),
+    ];
+    for (first, second, len, reason, offset) in rows {
+        let fault = refusal(rt.alloc(), first, second, len)?.ok_or("a fault")?;
+        assert_eq!(rt; fault.reason, reason, "{len} bytes");
+        assert_eq!(rt; fault.offset, offset, "{len} bytes");
+    }
+    assert!(rt; refusal(rt.alloc(), same, same, 2624)?.is_none());
+    Ok(())
+}
+
+/// The file offsets of the storage of the names, and of the size of the property stream.
+fn offsets(files: &Files<'_>) -> Option<(u64, u64)> {
+    let names = files.storage(files.root(), "__NameID_version1.0")?;
+    let size = files.size_offset(files.root(), PROPERTIES)?;
+    Some((files.storage_offset(names), size))
+}
+
+#[test]
+fn lookups(rt: HostRuntime) -> Result<(), Fail> {
+    let file = small_file(rt.alloc())?;
+    let bytes = file.as_slice();
+    if bytes.len() > 3072 {
+        return Err("too long")?;
+    }
+    let mut walk = Walk::new();
+    let files = open_files(rt.alloc(), bytes, &mut walk)?;
+    assert_eq!(rt; walk.count(), 5);
+    assert_eq!(rt; offsets(&files), Some((1152, 1784)));
+    let root = files.root();
+    let first = files.child(root, 0).ok_or("a first child")?;
+    let second = files.child(root, 1).ok_or("a second child")?;
+    assert_eq!(rt; first.units.len(), 19);
+    assert!(rt; first.storage.is_some());
+    assert_eq!(rt; second.units.len(), 23);
+    assert!(rt; second.storage.is_none());
+    assert!(rt; files.child(root, 2).is_none());
+    assert!(rt; files.stream(root, "__substg1.0_00020102").is_none());
+    Ok(())
+}
+
+/// The first piece of the property stream, which outlives the files.
+fn first_piece<'a>(alloc: Global, bytes: &'a [u8]) -> Result<&'a [u8], Fail> {
+    if bytes.len() > 3072 {
+        return Err("too long")?;
+    }
+    let files = open_files(alloc, bytes, &mut Walk::new())?;
+    let view = files.stream(files.root(), PROPERTIES).ok_or("no stream")?;
+    if view.pieces() == 0 {
+        return Err("no piece")?;
+    }
+    Ok(view.slice(0))
+}
+
+#[test]
+fn views(rt: HostRuntime) -> Result<(), Fail> {
+    let mut file = small_file(rt.alloc())?;
+    put(&mut file, 1784, 48);
+    let entry = [(2592, 0x0017_0003), (2596, 6), (2600, 2), (2604, 0)];
+    for (at, value) in entry {
+        put(&mut file, at, value);
+    }
+    let piece = first_piece(rt.alloc(), file.as_slice())?;
+    assert_eq!(rt; piece.len(), 48);
+    assert_eq!(rt;
+        piece.get(32..),
+        Some(b"\x03\0\x17\0\x06\0\0\0\x02\0\0\0\0\0\0\0".as_slice())
+    );
+    Ok(())
+}
+
+/// A file whose root has so many empty streams in one row of left links.
+fn long_row(alloc: Global) -> Result<Vec<u8>, AllocError> {
+    let mut file = vec![in alloc; 0; 2_581_504]?;
+    let header = [
+        (0, 0xE011_CFD0),
+        (4, 0xE11A_B1A1),
+        (24, 0x0003_003E),
+        (28, 0x0009_FFFE),
+        (32, 6),
+        (44, 40),
+        (48, 40),
+        (56, 4096),
+    ];
+    for (at, value) in header {
+        put(&mut file, at, value);
+    }
+    for i in 0..40u32 {
+        put(&mut file, 76 + 4 * i, i);
+        put(&mut file, 512 + 4 * i, 0xFFFF_FFFD);
+    }
+    for i in 40..5040u32 {
+        put(&mut file, 512 + 4 * i, i + 1);
+    }
+    put(&mut file, 512 + 4 * 5040, END);
+    for i in 0..20_001u32 {
+        let at = 20_992 + 128 * i;
+        put(&mut file, at, 0x1000 + i);
+        put(&mut file, at + 64, 0x0102_0004);
+        put(&mut file, at + 68, i + 1);
+        put(&mut file, at + 72, FREE);
+        put(&mut file, at + 76, FREE);
+    }
+    put(&mut file, 20_992 + 64, 0x0105_0016);
+    put(&mut file, 20_992 + 76, 1);
+    put(&mut file, 20_992 + 128 * 20_000 + 68, FREE);
+    Ok(file)
+}
+
+#[test]
+fn row_of_links(rt: HostRuntime) -> Result<(), Fail> {
+    let file = long_row(rt.alloc())?;
+    let bytes = file.as_slice();
+    if bytes.len() > 2_581_504 {
+        return Err("too long")?;
+    }
+    let files = open_files(rt.alloc(), bytes, &mut Walk::new())?;
+    assert!(rt; files.child(files.root(), 19_999).is_some());
+    assert!(rt; files.child(files.root(), 20_000).is_none());
     Ok(())
 }
