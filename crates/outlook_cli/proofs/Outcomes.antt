@@ -2,21 +2,25 @@
 use Rattle.std.proofs.Common.{◌≡◌, ℕ, ◌<◌, ◌≤◌, List, [], ◌∷◌, ◌++◌, length, Option, Some, None, refl, sym, ap, ◌∙◌, arith}
 use Rattle.std.specs.Prelude.{IfSome, nat_lt}
 use Rattle.std.specs.Option.{option_map}
+use Rattle.carrier_model.specs.Bytes.{AllBytes}
 use Rattle.carrier_model.specs.Limits as limits
 use Rattle.carrier_model.specs.Limits.{first_limit, tnef_limits, too_large}
 use Rattle.carrier_model.specs.Targets.{MOST_BYTES, passed_size}
 use Rattle.carrier_model.specs.TnefCanonical.{tnef_of}
 use Rattle.carrier_model.specs.Jobs.{Accepts, FaultOf}
-use Rattle.carrier_model.specs.TnefMessage.{Meaning}
+use Rattle.carrier_model.specs.TnefMessage.{Meaning, TnefCarrier, GREATEST_LEVEL}
 use Rattle.carrier_model.specs.Totals.{capped}
 use Rattle.carrier_model.specs.Tree.{Message}
+use Rattle.carrier_model.proofs.CanonicalTnef.{tree_within}
+use Rattle.carrier_model.proofs.ReadTnef.{carrier_is_tree}
+use Rattle.carrier_model.proofs.TnefMessage.{message_exact}
 use Rattle.carrier_model.proofs.Messages.{first_found, first_later, is_passed, isnt_passed}
 use Rattle.msg_tree.specs.Limiting.{limit_of}
 use Rattle.msg_tree.specs.declared.target_limits.Limit.{Limit}
 use Rattle.msg_tree.specs.declared.target_limits.Limit.TheVariants.{Size}
 use Rattle.outlook_cli.specs.declared.status.Status.{Status}
 use Rattle.outlook_cli.specs.declared.status.Status.TheVariants.{Done, Refused, Usage, Unfit, ReadFault, WriteFault, NoMemory}
-use Rattle.outlook_cli.specs.Outcome.{Puts, Tells, IsAccepted, IsDone, IsUnfit, IsRefused, stream_limit}
+use Rattle.outlook_cli.specs.Outcome.{Puts, Tells, IsAccepted, CarriesOnly, IsDone, IsUnfit, IsRefused, stream_limit}
 
 -- ---- the first limit
 
@@ -36,15 +40,25 @@ no_limit t none short =
 
 -- ---- what is told
 
+-- what is written for what the bytes mean carries that
+carried : (bytes : List ℕ) (m : Meaning) → AllBytes bytes → Accepts bytes m → stream_limit m.message ≡ None → CarriesOnly (tnef_of m.message) m.message
+carried bytes m all a none =
+    let tree = carrier_is_tree bytes m.message m.passed all a.0 a.1 in
+    let means = tree_within m.message [] tree none in
+    record {
+      carried = means;
+      only = λ other c. (let same : other ≡ record { message = m.message; passed = [] } = (message_exact GREATEST_LEVEL 0 (tnef_of m.message)).one (record { message = m.message; passed = [] }) other means c in (ap (λ (k : Meaning). k.message) same, ap (λ (k : Meaning). k.passed) same));
+    }
+
 -- what was written of the one message that the bytes mean
-pub tells : (s : Status) (bytes : List ℕ) (old new : Option (List ℕ)) (m : Meaning) → IsAccepted bytes m → Puts s m.message old new → Tells s bytes old new
-tells Done bytes old new m a p = (m, a, p)
-tells (Refused g) bytes old new m a p = absurd p
-tells Usage bytes old new m a p = tt
-tells (Unfit limit) bytes old new m a p = (m, a, p)
-tells ReadFault bytes old new m a p = tt
-tells WriteFault bytes old new m a p = (m, a, p)
-tells NoMemory bytes old new m a p = tt
+pub tells : (s : Status) (bytes : List ℕ) (old new : Option (List ℕ)) (m : Meaning) → AllBytes bytes → IsAccepted bytes m → Puts s m.message old new → Tells s bytes old new
+tells Done bytes old new m all a p = (m, a, p, carried bytes m all a.found p.0)
+tells (Refused g) bytes old new m all a p = absurd p
+tells Usage bytes old new m all a p = tt
+tells (Unfit limit) bytes old new m all a p = (m, a, p)
+tells ReadFault bytes old new m all a p = tt
+tells WriteFault bytes old new m all a p = (m, a, p)
+tells NoMemory bytes old new m all a p = tt
 
 is_done : (s : Status) (bytes : List ℕ) (old new : Option (List ℕ)) → (s ≡ Usage → ⊥) → Tells s bytes old new → (m : Meaning) → Accepts bytes m → stream_limit m.message ≡ None → IsDone s
 is_done Done bytes old new u t m a n = tt

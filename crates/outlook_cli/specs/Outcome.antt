@@ -9,7 +9,7 @@ use Rattle.carrier_model.specs.Limits as limits
 use Rattle.carrier_model.specs.Targets.{passed_limit}
 use Rattle.carrier_model.specs.TnefCanonical.{tnef_of}
 use Rattle.carrier_model.specs.Jobs.{Accepts, FaultOf}
-use Rattle.carrier_model.specs.TnefMessage.{Meaning}
+use Rattle.carrier_model.specs.TnefMessage.{Meaning, TnefCarrier}
 use Rattle.carrier_model.specs.Tree.{Message}
 use Rattle.msg_tree.specs.Limiting.{limit_of}
 use Rattle.outlook_cli.specs.declared.status.Status.{Status}
@@ -33,9 +33,14 @@ Puts NoMemory t old new = Unit {0}
 abbrev pub IsAccepted : List ℕ → Meaning → Type 0
 IsAccepted bytes = MeansOnly (Accepts bytes) (FaultOf bytes)
 
+-- A stream carries this message with nothing passed over, and nothing else.
+pub record CarriesOnly (stream : List ℕ) (t : Message) : Type 0 where
+  pub carried : TnefCarrier stream t []
+  pub only : (other : Meaning) → TnefCarrier stream other.message other.passed → (other.message ≡ t) × (other.passed ≡ [])
+
 -- of the bytes that were read, and of what the output held before and holds after
 abbrev pub Tells : Status → List ℕ → Option (List ℕ) → Option (List ℕ) → Type 0
-Tells Done bytes old new = (m : Meaning) × IsAccepted bytes m × Puts Done m.message old new
+Tells Done bytes old new = (m : Meaning) × IsAccepted bytes m × Puts Done m.message old new × CarriesOnly (tnef_of m.message) m.message
 Tells (Refused g) bytes old new = FaultOnly (Accepts bytes) (FaultOf bytes) (fault_of g)
 Tells Usage bytes old new = Unit {0}
 Tells (Unfit limit) bytes old new = (m : Meaning) × IsAccepted bytes m × Puts (Unfit limit) m.message old new
