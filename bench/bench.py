@@ -17,6 +17,7 @@ import argparse
 import os
 import pathlib
 import subprocess
+import sys
 import tempfile
 
 import inputs
@@ -67,9 +68,14 @@ def run(words, source):
     return usage.ru_utime + usage.ru_stime, usage.ru_maxrss / 1024, child.returncode, report
 
 
+def make(name, scale, source):
+    """Writes the input of a case, in a process of its own: a child's peak counts what its parent held at the fork."""
+    words = [sys.executable, __file__, "--make", name, "--scale", str(scale), "--into", str(source)]
+    subprocess.run(words, check=True)
+
+
 def measured(words, source, runs):
-    best = min((run(words, source) for _ in range(runs)), key=lambda r: r[0])
-    return best
+    return min((run(words, source) for _ in range(runs)), key=lambda r: r[0])
 
 
 def is_unknown(code, report):
@@ -83,7 +89,13 @@ def main():
     parser.add_argument("--runs", type=int, default=3)
     parser.add_argument("--scale", type=int, default=1, help="divides the sizes")
     parser.add_argument("--list", action="store_true")
+    parser.add_argument("--make", help="only writes the input of this case")
+    parser.add_argument("--into", type=pathlib.Path, help="where to")
     chosen = parser.parse_args()
+    if chosen.make:
+        made = {name: maker for name, _, maker in cases(chosen.scale)}
+        chosen.into.write_bytes(made[chosen.make]())
+        return
     wanted = [c for c in cases(chosen.scale) if not chosen.words or any(w in c[0] for w in chosen.words)]
     if chosen.list:
         for name, command, _ in wanted:
@@ -93,8 +105,8 @@ def main():
     print(f"{'case':22} {'command':8} {'MiB in':>7} {'seconds':>8} {'sha256':>7} {'ratio':>6} {'peak':>6} code")
     with tempfile.TemporaryDirectory() as folder:
         source = pathlib.Path(folder) / "input"
-        for name, command, make in wanted:
-            source.write_bytes(make())
+        for name, command, _ in wanted:
+            make(name, chosen.scale, source)
             size = source.stat().st_size / MIB
             code, report = run([chosen.program, command], source)[2:]
             if is_unknown(code, report):
