@@ -5,11 +5,10 @@ use Rattle.std.specs.List.{list_any}
 use Rattle.carrier_model.specs.Attributes.{Attr}
 use Rattle.carrier_model.specs.LegacyAttributes.{MESSAGE_PROPS, RENDERING, ATTACHMENT, is_message_id, is_attachment_id}
 use Rattle.carrier_model.specs.Reasons.{DOUBLE_ATTRIBUTE}
-use Rattle.carrier_model.specs.Sorted.{IsStrictlySorted}
 use Rattle.carrier_model.specs.TnefMessage.{Read, Part, place_tests, attached_by, groups, message_by, joined}
 use Rattle.carrier_model.specs.Trail.{Fault, first_fault}
 use Rattle.carrier_model.specs.Tree.{Attached, message, attachments_from, Message}
-use Rattle.carrier_model.specs.Values.{Prop, prop_cmp}
+use Rattle.carrier_model.specs.Values.{Prop}
 use Rattle.msg_tree.specs.Meaning.{list_of}
 use Rattle.tnef_message.specs.Sections.{HasId, IsSection}
 use Rattle.tnef_message.specs.Drafts.{Fits, attrs_of, own_of, of_attachments, IsTable, OneOpen, IsAttached, IsDraft, body_of, plain_gift}
@@ -86,10 +85,6 @@ module _ (reads : List Read) (d e : Draft) (a : Attr) (p : Part) (g : Gift) (fit
   }
 
 -- ---- what is known of the attachment that is being read
-
-pub current_sorted : (reads : List Read) (done : List Attached) (o : Option Pending) → IsAttached reads done o → MatchOption o (Unit {0}) (λ p. IsStrictlySorted prop_cmp p.section.list)
-current_sorted reads done None h = tt
-current_sorted reads done (Some p) h = h.section.sorted
 
 pub current_ids : (reads : List Read) (done : List Attached) (o : Option Pending) → IsAttached reads done o → MatchOption o (Unit {0}) (λ p. All HasId p.section.derived.items)
 current_ids reads done None h = tt

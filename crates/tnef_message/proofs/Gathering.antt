@@ -11,10 +11,9 @@ use Rattle.std.proofs.lemmas.Bool.{eqb-true}
 use Rattle.carrier_model.specs.Attributes.{Attr}
 use Rattle.carrier_model.specs.Keys.{id}
 use Rattle.carrier_model.specs.LegacyAttributes.{Row, message_rows, attachment_rows, value_by, prop_by, legacy_prop, MESSAGE_PROPS, RECIPIENTS, RENDERING, ATTACHMENT, is_message_id, is_attachment_id}
-use Rattle.carrier_model.specs.Sorted.{IsStrictlySorted}
 use Rattle.carrier_model.specs.TnefMessage.{Read, Part, Gift, has_attr, props_in, recipients_in, body_in, or_else, body_among, derived as derived_of, joined, beside, attached_by, groups, message_by}
 use Rattle.carrier_model.specs.Tree.{Attached, Body, nothing, embedded, message, attachments_from}
-use Rattle.carrier_model.specs.Values.{Value, Prop, prop_cmp}
+use Rattle.carrier_model.specs.Values.{Value, Prop}
 use Rattle.tnef_message.specs.Sections.{HasId, IsSection, beside_if}
 use Rattle.tnef_message.specs.Drafts.{Fits, begins, own_of, of_attachments, IsTable, IsBody, NoneYet, OneOpen, IsAttached, body_of, plain_gift}
 use Rattle.tnef_message.specs.Entries.{Entered, IsFresh, attached_as, body_after, closed, list_after, lists_after, own_after}
@@ -60,12 +59,11 @@ any_last p seen n seen' e f =
     (left_false (list_any p seen) (p n || false) whole, left_false (p n) false (right_false (list_any p seen) (p n || false) whole))
 
 pub section_more : (list_id : ℕ) (reads : List Read) (seen : List ℕ) (list derived : List Prop) (r : Read) (seen' : List ℕ) (list' derived' : List Prop) → IsSection list_id reads seen list derived → seen' ≡ seen ++ r.0.id ∷ []
-    → derived' ≡ derived ++ option_to_list (legacy_prop r.0.id r.0.bytes) → list' ≡ list ++ props_in r.1.gift → ((r.0.id == list_id) ≡ false → props_in r.1.gift ≡ []) → IsStrictlySorted prop_cmp list' → IsSection list_id (reads ++ r ∷ []) seen' list' derived'
-section_more list_id reads seen list derived r seen' list' derived' s se de le off sorted = record {
+    → derived' ≡ derived ++ option_to_list (legacy_prop r.0.id r.0.bytes) → list' ≡ list ++ props_in r.1.gift → ((r.0.id == list_id) ≡ false → props_in r.1.gift ≡ []) → IsSection list_id (reads ++ r ∷ []) seen' list' derived'
+section_more list_id reads seen list derived r seen' list' derived' s se de le off = record {
   seen_are = se ∙ ap (λ (z : List ℕ). z ++ r.0.id ∷ []) s.seen_are ∙ sym (map-append (λ (r : Read). r.0.id) reads (r ∷ []));
   list_is = le ∙ ap (λ (z : List Prop). z ++ props_in r.1.gift) s.list_is ∙ ap (λ (z : List Prop). flat_map (λ (r : Read). props_in r.1.gift) reads ++ z) (sym (append-nil (props_in r.1.gift))) ∙ sym (flat_map-append (λ (r : Read). props_in r.1.gift) reads (r ∷ []));
   derived_are = de ∙ ap (λ (z : List Prop). z ++ option_to_list (legacy_prop r.0.id r.0.bytes)) s.derived_are ∙ ap (λ (z : List Prop). derived_of reads ++ z) (sym (one_option (legacy_prop r.0.id r.0.bytes))) ∙ sym (filter_map-append (λ (r : Read). legacy_prop r.0.id r.0.bytes) reads (r ∷ []));
-  sorted = sorted;
   no_list = λ f. let q = any_last (λ n. n == list_id) seen r.0.id seen' se f in nothing_more list (props_in r.1.gift) list' (s.no_list q.0) (off q.1) le;
 }
 
@@ -108,21 +106,15 @@ same_never n k e f = let g = eq-eqb n k e in cc
 
 own_list : (n : ℕ) (g : rust.Gift) (list : List Prop) → Fits n g → is_message_id n ≡ true → (n ≡ MESSAGE_PROPS → list ≡ []) → own_after g list ≡ list ++ props_in (plain_gift g)
 own_list n Nothing list fits m none = sym (append-nil list)
-own_list n (MessageList props) list fits m none = ap (λ (z : List Prop). z ++ props) (sym (none fits.0))
+own_list n (MessageList props) list fits m none = ap (λ (z : List Prop). z ++ props) (sym (none fits))
 own_list n (RecipientTable lists) list fits m none = sym (append-nil list)
-own_list n (AttachmentList props inner) list fits m none = absurd (message_never n m fits.0)
+own_list n (AttachmentList props inner) list fits m none = absurd (message_never n m fits)
 
 own_off : (n : ℕ) (g : rust.Gift) → Fits n g → is_message_id n ≡ true → (n == MESSAGE_PROPS) ≡ false → props_in (plain_gift g) ≡ []
 own_off n Nothing fits m off = refl
-own_off n (MessageList props) fits m off = absurd (same_never n MESSAGE_PROPS fits.0 off)
+own_off n (MessageList props) fits m off = absurd (same_never n MESSAGE_PROPS fits off)
 own_off n (RecipientTable lists) fits m off = refl
-own_off n (AttachmentList props inner) fits m off = absurd (message_never n m fits.0)
-
-own_sorted : (n : ℕ) (g : rust.Gift) (list : List Prop) → Fits n g → IsStrictlySorted prop_cmp list → IsStrictlySorted prop_cmp (own_after g list)
-own_sorted n Nothing list fits s = s
-own_sorted n (MessageList props) list fits s = fits.1
-own_sorted n (RecipientTable lists) list fits s = s
-own_sorted n (AttachmentList props inner) list fits s = s
+own_off n (AttachmentList props inner) fits m off = absurd (message_never n m fits)
 
 own_lists : (n : ℕ) (g : rust.Gift) (lists : List (List Prop)) → Fits n g → (n ≡ RECIPIENTS → lists ≡ []) → lists_after g lists ≡ lists ++ recipients_in (plain_gift g)
 own_lists n Nothing lists fits none = sym (append-nil lists)
@@ -138,33 +130,27 @@ lists_off n (AttachmentList props inner) fits off = refl
 
 its_list : (n : ℕ) (g : rust.Gift) (list : List Prop) → Fits n g → is_attachment_id n ≡ true → (n ≡ ATTACHMENT → list ≡ []) → list_after g list ≡ list ++ props_in (plain_gift g)
 its_list n Nothing list fits m none = sym (append-nil list)
-its_list n (MessageList props) list fits m none = absurd (attachment_never n m fits.0)
+its_list n (MessageList props) list fits m none = absurd (attachment_never n m fits)
 its_list n (RecipientTable lists) list fits m none = sym (append-nil list)
-its_list n (AttachmentList props inner) list fits m none = ap (λ (z : List Prop). z ++ props) (sym (none fits.0))
+its_list n (AttachmentList props inner) list fits m none = ap (λ (z : List Prop). z ++ props) (sym (none fits))
 
 its_off : (n : ℕ) (g : rust.Gift) → Fits n g → is_attachment_id n ≡ true → (n == ATTACHMENT) ≡ false → props_in (plain_gift g) ≡ []
 its_off n Nothing fits m off = refl
-its_off n (MessageList props) fits m off = absurd (attachment_never n m fits.0)
+its_off n (MessageList props) fits m off = absurd (attachment_never n m fits)
 its_off n (RecipientTable lists) fits m off = refl
-its_off n (AttachmentList props inner) fits m off = absurd (same_never n ATTACHMENT fits.0 off)
-
-its_sorted : (n : ℕ) (g : rust.Gift) (list : List Prop) → Fits n g → IsStrictlySorted prop_cmp list → IsStrictlySorted prop_cmp (list_after g list)
-its_sorted n Nothing list fits s = s
-its_sorted n (MessageList props) list fits s = s
-its_sorted n (RecipientTable lists) list fits s = s
-its_sorted n (AttachmentList props inner) list fits s = fits.1
+its_off n (AttachmentList props inner) fits m off = absurd (same_never n ATTACHMENT fits off)
 
 its_body : (n : ℕ) (g : rust.Gift) (body : Body) → Fits n g → (n ≡ ATTACHMENT → body ≡ nothing) → body_after g body ≡ or_else body (body_in (plain_gift g))
 its_body n Nothing body fits none = sym (or_nothing body)
 its_body n (MessageList props) body fits none = sym (or_nothing body)
 its_body n (RecipientTable lists) body fits none = sym (or_nothing body)
-its_body n (AttachmentList props inner) body fits none = ap (λ (z : Body). or_else z (body_of inner)) (sym (none fits.0))
+its_body n (AttachmentList props inner) body fits none = ap (λ (z : Body). or_else z (body_of inner)) (sym (none fits))
 
 body_off : (n : ℕ) (g : rust.Gift) → Fits n g → (n == ATTACHMENT) ≡ false → body_in (plain_gift g) ≡ nothing
 body_off n Nothing fits off = refl
 body_off n (MessageList props) fits off = refl
 body_off n (RecipientTable lists) fits off = refl
-body_off n (AttachmentList props inner) fits off = absurd (same_never n ATTACHMENT fits.0 off)
+body_off n (AttachmentList props inner) fits off = absurd (same_never n ATTACHMENT fits off)
 
 -- ---- one attribute more
 
@@ -178,8 +164,7 @@ module _ (reads : List Read) (r : Read) (g : rust.Gift) (fits : Fits r.0.id g) (
       subst (λ (z : List Read). IsSection MESSAGE_PROPS z seen' list' derived') (sym (filter_in (λ (r : Read). is_message_id r.0.id) reads r m))
       (section_more MESSAGE_PROPS (own_of reads) seen list derived r seen' list' derived' s se de
       (le ∙ own_list r.0.id g list fits m (λ e. s.no_list (none_there MESSAGE_PROPS seen new e)) ∙ ap (λ z. list ++ props_in z) (sym given))
-      (λ off. ap props_in given ∙ own_off r.0.id g fits m off)
-      (subst (λ (z : List Prop). IsStrictlySorted prop_cmp z) (sym le) (own_sorted r.0.id g list fits s.sorted)))
+      (λ off. ap props_in given ∙ own_off r.0.id g fits m off))
 
   pub own_table : (seen : List ℕ) (lists : List (List Prop)) (seen' : List ℕ) (lists' : List (List Prop)) → is_message_id r.0.id ≡ true → IsTable (own_of reads) seen lists → list_any (λ n. n == r.0.id) seen ≡ false → seen' ≡ seen ++ r.0.id ∷ []
       → lists' ≡ lists_after g lists → IsTable (own_of (reads ++ r ∷ [])) seen' lists'
@@ -195,7 +180,6 @@ module _ (reads : List Read) (r : Read) (g : rust.Gift) (fits : Fits r.0.id g) (
       section_more ATTACHMENT group seen list derived r seen' list' derived' s se de
       (le ∙ its_list r.0.id g list fits m (λ e. s.no_list (none_there ATTACHMENT seen new e)) ∙ ap (λ z. list ++ props_in z) (sym given))
       (λ off. ap props_in given ∙ its_off r.0.id g fits m off)
-      (subst (λ (z : List Prop). IsStrictlySorted prop_cmp z) (sym le) (its_sorted r.0.id g list fits s.sorted))
 
   its_inside : (group : List Read) (seen : List ℕ) (body : Body) (seen' : List ℕ) (body' : Body) → IsBody group seen body → list_any (λ n. n == r.0.id) seen ≡ false → seen' ≡ seen ++ r.0.id ∷ []
       → body' ≡ body_after g body → IsBody (group ++ r ∷ []) seen' body'
@@ -230,7 +214,6 @@ module _ (reads : List Read) (r : Read) (g : rust.Gift) (fits : Fits r.0.id g) (
         seen_are = fresh.seen;
         list_is = fresh.list;
         derived_are = fresh.derived;
-        sorted = subst (λ (z : List Prop). IsStrictlySorted prop_cmp z) (sym fresh.list) (λ i j d lt within. absurd (omega arith));
         no_list = λ f. fresh.list;
       } in
       let empty : IsBody [] p.section.seen.items (body_of p.inner) = record { body_is = fresh.body; no_body = λ f. fresh.body } in

@@ -1,34 +1,18 @@
 -- Properties put into their places in a sorted list.
 use Rattle.std.proofs.Common.{◌≡◌, ℕ, ◌<◌, Bool, true, false, List, [], ◌∷◌, ◌++◌, length, get_or, refl, sym, ap, subst, ◌∙◌, arith}
 use Rattle.std.specs.Prelude.{Any, All, Contains, ◌&&◌, not, filter, cond}
-use Rattle.std.specs.List.{list_any}
 use Rattle.std.proofs.lemmas.List.Elements.{at_read, filter_agree}
-use Rattle.std.proofs.lemmas.List.Folds.{Any-from_list_any, list_any-from_Any}
 use Rattle.std.specs.declared.cmp.Ordering.{Ordering}
 use Rattle.std.specs.declared.cmp.Ordering.TheVariants.{Less, Equal, Greater}
 use Rattle.carrier_model.specs.Places.{IsPlace}
-use Rattle.carrier_model.specs.Sorted.{IsStrictlySorted, choose, with_element, with_elements}
+use Rattle.carrier_model.specs.Sorted.{IsStrictlySorted, with_element, with_elements}
 use Rattle.carrier_model.specs.Keys.{is_id}
 use Rattle.carrier_model.specs.TnefMessage.{has_key_of}
 use Rattle.tnef_message.specs.Sections.{beside_if, stays}
 use Rattle.carrier_model.specs.Values.{Prop, prop_cmp}
 use Rattle.carrier_model.proofs.Orders.{prop_total}
 use Rattle.carrier_model.proofs.Place.{with_element_there}
-use Rattle.carrier_model.proofs.SortedLists.{with_element_sorted}
 use Rattle.carrier_model.proofs.Trees.{with_elements-append}
-
-is_equal : Ordering → Bool
-is_equal o = choose o false true false
-
-equal_of : (o : Ordering) → is_equal o ≡ true → o ≡ Equal
-unfolding is_equal
-equal_of Less e = absurd cc
-equal_of Equal e = refl
-equal_of Greater e = absurd cc
-
-is_equal_of : (o : Ordering) → o ≡ Equal → is_equal o ≡ true
-unfolding is_equal
-is_equal_of o e = rw e refl
 
 place_of : (l : List Prop) (p : Prop) → Any (λ q. prop_cmp q p ≡ Equal) l → (i : ℕ) × IsPlace prop_cmp l p i
 place_of l p (i, q, lt, e, same) = (i, record { in_range = lt; equal = at_read l (λ (z : Prop). prop_cmp z p ≡ Equal) i q lt (sym e) same })
@@ -36,25 +20,6 @@ place_of l p (i, q, lt, e, same) = (i, record { in_range = lt; equal = at_read l
 -- a property that is there changes nothing
 pub there : (l : List Prop) (p : Prop) → IsStrictlySorted prop_cmp l → Any (λ q. prop_cmp q p ≡ Equal) l → l ≡ with_element prop_cmp l p
 there l p s h = let at = place_of l p h in sym (with_element_there prop_total l p at.0 s at.1)
-
-pub sorted_more : (l : List Prop) (p : Prop) → IsStrictlySorted prop_cmp l → IsStrictlySorted prop_cmp (with_element prop_cmp l p)
-sorted_more l p s = by (list_any (λ q. is_equal (prop_cmp q p)) l) refl
-  where
-    by : (b : Bool) → list_any (λ q. is_equal (prop_cmp q p)) l ≡ b → IsStrictlySorted prop_cmp (with_element prop_cmp l p)
-    by true e =
-        let (i, q, h, f, same) = Any-from_list_any (λ q. is_equal (prop_cmp q p)) l e in
-        subst (λ (z : List Prop). IsStrictlySorted prop_cmp z) (there l p s (i, q, h, f, equal_of (prop_cmp q p) same)) s
-    by false e = with_element_sorted prop_total l p s (λ y c f. absurd (no (list_any-from_Any (λ q. is_equal (prop_cmp q p)) l (c.0, y, c.1, c.2, is_equal_of (prop_cmp y p) f)) e))
-      where
-        no : list_any (λ q. is_equal (prop_cmp q p)) l ≡ true → list_any (λ q. is_equal (prop_cmp q p)) l ≡ false → ⊥
-        no a b = cc
-
-pub sorted_all : (l xs : List Prop) → IsStrictlySorted prop_cmp l → IsStrictlySorted prop_cmp (with_elements prop_cmp l xs)
-sorted_all l [] s = s
-sorted_all l (x ∷ xs) s = sorted_all (with_element prop_cmp l x) xs (sorted_more l x s)
-
-pub sorted_from_none : (xs : List Prop) → IsStrictlySorted prop_cmp (with_elements prop_cmp [] xs)
-sorted_from_none xs = sorted_all [] xs (λ i j d lt in_range. absurd (omega arith))
 
 pub more_elements : (l now next done : List Prop) (p : Prop) → now ≡ with_elements prop_cmp l done → next ≡ with_element prop_cmp now p → next ≡ with_elements prop_cmp l (done ++ p ∷ [])
 more_elements l now next done p e f = f ∙ ap (λ (z : List Prop). with_element prop_cmp z p) e ∙ sym (with_elements-append prop_cmp l done (p ∷ []))

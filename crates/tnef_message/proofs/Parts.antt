@@ -1,23 +1,15 @@
 -- What the bytes of an attribute give, by its id.
 use Rattle.std.proofs.Common.{◌≡◌, ◌⊎◌, inl, inr, ℕ, ◌+◌, Bool, true, false, List, [], ◌∷◌, ◌++◌, length, map, drop, eqb, eq-eqb, add-zero, refl, sym, ap, subst, ◌∙◌}
-use Rattle.std.specs.Prelude.{◌||◌, filter_map}
+use Rattle.std.specs.Prelude.{◌||◌}
 use Rattle.std.specs.List.{flat_map}
 use Rattle.carrier_model.specs.Attributes.{Attr}
 use Rattle.carrier_model.specs.Grammar.{Form, Spans, Means, Whole, gives, and_then, choice}
 use Rattle.carrier_model.specs.LegacyAttributes.{MESSAGE_PROPS, RECIPIENTS, RENDERING, ATTACHMENT, is_message_id, is_attachment_id}
-use Rattle.carrier_model.specs.Sorted.{IsStrictlySorted}
-use Rattle.carrier_model.specs.TnefLists.{PropList, prop_list, recipient_lists, prop_in}
+use Rattle.carrier_model.specs.TnefLists.{PropList, prop_list, recipient_lists}
 use Rattle.carrier_model.specs.TnefMessage as plain
 use Rattle.carrier_model.specs.TnefMessage.{Meaning, Part, Passed, part, content, inner_of, with_inner}
 use Rattle.carrier_model.specs.Trail.{Fault}
-use Rattle.carrier_model.specs.Values.{Prop, prop_cmp}
 use Rattle.carrier_model.proofs.Reading.{spans_seen, spans_nothing}
-use Rattle.tnef_message.proofs.Joins.{sorted_from_none}
-
--- a list is sorted
-pub list_sorted : (b : Bool) (at : ℕ) (text : List ℕ) (l : PropList) → (prop_list b).spells at l text → IsStrictlySorted prop_cmp l.props
-unfolding prop_list
-list_sorted b at text l s = subst (λ (z : List Prop). IsStrictlySorted prop_cmp z) (sym (ap (λ (z : PropList). z.props) s.second.0)) (sorted_from_none (filter_map prop_in s.x))
 
 module _ (objects : Whole Meaning) (a : Attr) where
   message_form : a.id ≡ MESSAGE_PROPS → content objects a ≡ and_then (prop_list false) (λ l. gives (part (plain.message_list l.props) l.passed))

@@ -9,8 +9,7 @@ use Rattle.carrier_model.specs.LegacyAttributes.{MESSAGE_PROPS, RECIPIENTS, REND
 use Rattle.carrier_model.specs.TnefMessage as plain
 use Rattle.carrier_model.specs.TnefMessage.{Read, Part, has_attr, attached_by, groups, recipients_in, body_among}
 use Rattle.carrier_model.specs.Tree.{Attached, Body, nothing, embedded}
-use Rattle.carrier_model.specs.Sorted.{IsStrictlySorted}
-use Rattle.carrier_model.specs.Values.{Prop, prop_cmp}
+use Rattle.carrier_model.specs.Values.{Prop}
 use Rattle.msg_tree.specs.declared.messages.Message.{Message}
 use Rattle.msg_tree.specs.Meaning.{tree_of, list_of}
 use Rattle.tnef_message.specs.declared.gifts.Gift.{Gift}
@@ -31,12 +30,12 @@ plain_gift (MessageList props) = plain.message_list props
 plain_gift (RecipientTable lists) = plain.recipients lists
 plain_gift (AttachmentList props inner) = plain.attachment props (body_of inner)
 
--- only these attributes have lists, and these are sorted
+-- only these attributes have lists
 abbrev pub Fits : ℕ → Gift → Type 0
 Fits n Nothing = Unit {0}
-Fits n (MessageList props) = (n ≡ MESSAGE_PROPS) × IsStrictlySorted prop_cmp props
+Fits n (MessageList props) = n ≡ MESSAGE_PROPS
 Fits n (RecipientTable lists) = n ≡ RECIPIENTS
-Fits n (AttachmentList props inner) = (n ≡ ATTACHMENT) × IsStrictlySorted prop_cmp props
+Fits n (AttachmentList props inner) = n ≡ ATTACHMENT
 
 -- ---- attributes that were read
 

@@ -2,8 +2,7 @@
 use Rattle.std.specs.Prelude.{◌≡◌, ℕ, ◌==◌, ◌&&◌, Bool, true, false, not, List, [], map, filter}
 use Rattle.std.specs.List.{flat_map, list_any}
 use Rattle.carrier_model.specs.Keys.{Key, id, named, is_id}
-use Rattle.carrier_model.specs.Sorted.{IsStrictlySorted}
-use Rattle.carrier_model.specs.Values.{Prop, prop_cmp}
+use Rattle.carrier_model.specs.Values.{Prop}
 use Rattle.carrier_model.specs.TnefMessage.{Read, props_in, derived as derived_of, has_key_of}
 
 -- the key is an id
@@ -28,5 +27,4 @@ pub record IsSection (list_id : ℕ) (reads : List Read) (seen : List ℕ) (list
   pub seen_are : seen ≡ map (λ r. r.0.id) reads
   pub list_is : list ≡ flat_map (λ r. props_in r.1.gift) reads
   pub derived_are : derived ≡ derived_of reads
-  pub sorted : IsStrictlySorted prop_cmp list
   pub no_list : list_any (λ n. n == list_id) seen ≡ false → list ≡ []

@@ -5,9 +5,7 @@ ghost use Rattle.std.specs.List.{list_any};
 ghost use Rattle.carrier_io.specs.Reasons.{refusal};
 ghost use Rattle.carrier_model.specs.LegacyAttributes as plain;
 ghost use Rattle.carrier_model.specs.Reasons.{DOUBLE_ATTRIBUTE};
-ghost use Rattle.carrier_model.specs.Sorted.{IsStrictlySorted};
 ghost use Rattle.carrier_model.specs.Tree.{attachments_from, message};
-ghost use Rattle.carrier_model.specs.Values.{prop_cmp};
 ghost use Rattle.carrier_model.specs.Trail.{first_fault};
 ghost use Rattle.carrier_model.specs.TnefMessage.{Read, Part, message_by, place_tests};
 ghost use Rattle.msg_tree.specs.Meaning.{tree_of, list_of, attached_of};
@@ -63,8 +61,7 @@ impl<'a> Pending<'a> {
 
     /// The attachment, once all its attributes were read.
     fn finish(self, alloc: Global) -> Result<Attachment<&'a [u8]>, NoMemory>
-        requires sorted { IsStrictlySorted prop_cmp self.section.list }
-        requires ids { All HasId self.section.derived.items }
+        requires { All HasId self.section.derived.items }
         ensures { IfOk result (λ a. attached_of (λ s. s.now) a ≡ attached_as self.entry.section.list self.entry.section.derived.items (body_of self.entry.inner)) }
     {
         let Pending { section, inner } = self;
@@ -173,8 +170,7 @@ impl<'a> Draft<'a> {
 
     /// Puts the attachment whose attributes were all read behind the others.
     fn close(&mut self, alloc: Global) -> Result<(), NoMemory>
-        requires sorted { MatchOption self.old.current (Unit {0}) (λ p. IsStrictlySorted prop_cmp p.section.list) }
-        requires ids { MatchOption self.old.current (Unit {0}) (λ p. All HasId p.section.derived.items) }
+        requires { MatchOption self.old.current (Unit {0}) (λ p. All HasId p.section.derived.items) }
         ensures own { OnOk result (self.new.own ≡ self.old.own) }
         ensures recipients { OnOk result (self.new.recipients ≡ self.old.recipients) }
         ensures current { OnOk result (self.new.current ≡ None) }
@@ -195,7 +191,6 @@ impl<'a> Draft<'a> {
         gift: Gift<'a>,
     ) -> Result<(), NoMemory>
         requires few { length attribute.now.bytes.now < 268435456 }
-        requires sorted { MatchOption self.old.current (Unit {0}) (λ p. IsStrictlySorted prop_cmp p.section.list) }
         requires ids { MatchOption self.old.current (Unit {0}) (λ p. All HasId p.section.derived.items) }
         ensures { OnOk result (Opened attribute.now.id attribute.now.bytes.now gift.entry self.old self.new) }
     {

@@ -18,4 +18,6 @@ pub use plan::TnefPlan;
 pub use whole::read_tnef;
 
 #[cfg(test)]
+mod reading_tests;
+#[cfg(test)]
 mod tests;

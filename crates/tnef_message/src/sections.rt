@@ -3,7 +3,7 @@ ghost use Rattle.std.specs.Prelude.{◌≡◌, ◌==◌, ◌∷◌, [], ◌++◌
 ghost use Rattle.std.specs.Option.{option_to_list};
 ghost use Rattle.std.specs.List.{list_any};
 ghost use Rattle.carrier_model.specs.LegacyAttributes as plain;
-ghost use Rattle.carrier_model.specs.Sorted.{IsStrictlySorted, with_element, with_elements};
+ghost use Rattle.carrier_model.specs.Sorted.{with_element, with_elements};
 ghost use Rattle.carrier_model.specs.TnefMessage.{joined, has_key_of};
 ghost use Rattle.carrier_model.specs.Values.{prop_cmp};
 ghost use Rattle.tnef_message.specs.Sections.{HasId, beside_if, stays};
@@ -105,7 +105,6 @@ fn beside<'a>(
 
 /// Puts a property into its place, unless one with its key and kind is there.
 fn add<'a>(props: &mut Props<&'a [u8]>, prop: Prop<&'a [u8]>) -> Result<(), NoMemory>
-    requires { IsStrictlySorted prop_cmp props.old }
     ensures { OnOk result (props.new ≡ with_element prop_cmp props.old prop.entry) }
 {
     match props.insert_sorted(prop) {
@@ -120,7 +119,6 @@ fn with_all<'a>(
     mut list: Props<&'a [u8]>,
     props: Vec<Prop<&'a [u8]>>,
 ) -> Result<Props<&'a [u8]>, NoMemory>
-    requires { IsStrictlySorted prop_cmp list }
     ensures { IfOk result (λ r. r ≡ with_elements prop_cmp list.entry props.entry.items) }
 {
     for prop in props {
@@ -136,8 +134,7 @@ pub fn join<'a>(
     section: Section<'a>,
     embeds: bool,
 ) -> Result<Props<&'a [u8]>, NoMemory>
-    requires sorted { IsStrictlySorted prop_cmp section.list }
-    requires ids { All HasId section.derived.items }
+    requires { All HasId section.derived.items }
     ensures { IfOk result (λ r. r ≡ joined section.entry.list (beside_if embeds section.entry.derived.items)) }
 {
     let Section {

@@ -2,7 +2,7 @@
 ghost use Rattle.std.specs.Prelude.{◌≡◌, ◌==◌, ◌+◌, ◌≤◌, ◌++◌, List, IfOk, IfErr, length, nat_eq, true, OnOk};
 ghost use Rattle.carrier_io.specs.Reads.{OnFault, Reads};
 ghost use Rattle.carrier_model.specs.LegacyAttributes as plain;
-ghost use Rattle.carrier_model.specs.TnefMessage.{GREATEST_LEVEL as plain_greatest, TnefFault, message_within};
+ghost use Rattle.carrier_model.specs.TnefMessage.{TnefCarrier, TnefFault, message_within};
 ghost use Rattle.tnef_attributes.specs.Views.{view};
 ghost use Rattle.tnef_message.specs.Contents.{FailsPart, GivesPart, objects_at};
 ghost use Rattle.tnef_message.specs.Streams.{GivesMessage, objects_fail, stream_fails};
@@ -127,7 +127,7 @@ fn message_in<'a>(
 /// [MS-OXTNEF 2.1.3]
 pub fn read_tnef<'a>(alloc: Global, bytes: &'a [u8]) -> Result<Accepted<&'a [u8]>, Stop>
     requires { length bytes.now ≤ 268435456 }
-    ensures { Reads meaning_in result ((message_within plain_greatest).means 0 bytes.entry.now) (TnefFault bytes.entry.now) }
+    ensures { Reads meaning_in result (λ m. TnefCarrier bytes.entry.now m.message m.passed) (TnefFault bytes.entry.now) }
 {
     let mut passed = PassedList::new(alloc);
     let message = message_at(alloc, bytes, 0, GREATEST_LEVEL, &mut passed)?;

@@ -12,7 +12,7 @@ use Rattle.carrier_model.specs.TnefMessage.{part}
 use Rattle.tnef_props.specs.ReadLists.{list_seen}
 use Rattle.tnef_attributes.specs.Views.{view}
 use Rattle.tnef_message.specs.Contents.{objects_at, FailsPart}
-use Rattle.tnef_message.proofs.Parts.{list_sorted, message_means, message_fails, recipients_mean, recipients_fail, plain_form, nothing_means}
+use Rattle.tnef_message.proofs.Parts.{message_means, message_fails, recipients_mean, recipients_fail, plain_form, nothing_means}
 use Rattle.tnef_message.proofs.contents.plain_gift.Goals as goal
 
 pub returns-in_err-list-clause-fault : goal.returns-in_err-list-clause-fault
@@ -33,7 +33,7 @@ returns-then-attribute-eq-MESSAGE_LIST-clause-found c = λ levels.
       means = message_means (objects_at levels) a (list_seen c.in_ok-list.list x.more) _ _ e x.spans;
       given = refl;
       passed = x.passed;
-      fits = (e, list_sorted false _ _ (list_seen c.in_ok-list.list x.more) x.spans.begins.spelled);
+      fits = e;
     }
 
 pub returns-in_err-recipients_in-clause-fault : goal.returns-in_err-recipients_in-clause-fault

@@ -17,7 +17,6 @@ use Rattle.tnef_props.specs.ReadLists.{list_seen}
 use Rattle.tnef_attributes.specs.Views.{view, views}
 use Rattle.tnef_message.specs.Contents.{objects_at, FailsPart}
 use Rattle.tnef_message.specs.Streams.{objects_fail, stream_fails}
-use Rattle.tnef_message.proofs.Parts.{list_sorted}
 use Rattle.tnef_message.proofs.Streams.{attachment_fails, object_inside_fails, with_object, without_object, attrs_stop, place_fails, progress_more, progress_all, attr_within}
 use Rattle.tnef_message.proofs.whole.+reading.Goals as goal
 
@@ -50,7 +49,7 @@ attachment_gift-returns-in_ok-inner-in-Some-clause-found t c =
       means = with_object (objects_at c.args.levels) a c.requires.list l (object_of o) m _ _ (ap (option_map object_of) c.in-Some.is) y.means x.spans;
       given = ap (λ t. plain.attachment c.in_ok-list.list.props (embedded (tree_of (λ s. s.now) t))) (sym c.in_ok-inner-in-Some.ensures.ok);
       passed = y.passed ∙ ap (λ z. z ++ y.more) x.passed ∙ append_assoc c.args.passed.now x.more y.more;
-      fits = (c.requires.list, list_sorted true _ _ l x.spans.begins.spelled);
+      fits = c.requires.list;
     }
 
 pub attachment_gift-returns-in-None-clause-found : goal.attachment_gift-returns-in-None-clause-found
@@ -63,7 +62,7 @@ attachment_gift-returns-in-None-clause-found t c =
       means = without_object (objects_at c.args.levels) a c.requires.list l _ _ (ap (option_map object_of) c.in-None.is) x.spans;
       given = refl;
       passed = x.passed;
-      fits = (c.requires.list, list_sorted true _ _ l x.spans.begins.spelled);
+      fits = c.requires.list;
     }
 
 pub message_at-returns-in_err-attributes-clause-fault :

@@ -3,7 +3,7 @@ use Rattle.std.specs.Prelude.{OnOk}
 use Rattle.carrier_model.specs.TnefMessage.{Read, Part}
 use Rattle.tnef_attributes.specs.Views.{view}
 use Rattle.tnef_message.specs.Drafts.{IsDraft}
-use Rattle.tnef_message.proofs.Drafting.{draft_own, draft_new, draft_current, draft_unknown, current_sorted, current_ids}
+use Rattle.tnef_message.proofs.Drafting.{draft_own, draft_new, draft_current, draft_unknown, current_ids}
 use Rattle.tnef_message.proofs.drafts.Draft.enter.Goals as goal
 
 on_ok : {A E P Q : Type 0} (r : Result A E) → (P → Q) → OnOk r P → OnOk r Q
@@ -14,9 +14,6 @@ pub returns-in-Message : goal.returns-in-Message
 returns-in-Message c =
     let f = c.in-Message.ensures in
     on_ok c.enter_own.result (λ en reads p here passes given. draft_own reads c.args.self.now c.enter_own.new.self (view c.args.attribute.now) p c.args.gift c.requires.fits here passes given f.0 f.1 f.2 en) c.enter_own.ensures
-
-pub open-requires-clause-sorted : goal.open-requires-clause-sorted
-open-requires-clause-sorted c = current_sorted c.requires.known.0 _ c.args.self.now.current c.requires.known.1.attached
 
 pub open-requires-clause-ids : goal.open-requires-clause-ids
 open-requires-clause-ids c = current_ids c.requires.known.0 _ c.args.self.now.current c.requires.known.1.attached

@@ -5,17 +5,14 @@ use Rattle.msg_tree.specs.Meaning.{list_of}
 use Rattle.tnef_message.specs.Drafts.{IsDraft}
 use Rattle.tnef_message.specs.Sections.{HasId}
 use Rattle.tnef_message.specs.declared.sections.Section.{Section}
-use Rattle.tnef_message.proofs.Drafting.{current_sorted, current_ids, own_ids, finished}
+use Rattle.tnef_message.proofs.Drafting.{current_ids, own_ids, finished}
 use Rattle.tnef_message.proofs.drafts.Draft.finish.Goals as goal
 
-pub close-requires-clause-sorted : goal.close-requires-clause-sorted
-close-requires-clause-sorted c = current_sorted c.requires.0 _ c.args.self.current c.requires.1.attached
+pub close-requires : goal.close-requires
+close-requires c = current_ids c.requires.0 _ c.args.self.current c.requires.1.attached
 
-pub close-requires-clause-ids : goal.close-requires-clause-ids
-close-requires-clause-ids c = current_ids c.requires.0 _ c.args.self.current c.requires.1.attached
-
-pub join-requires-clause-ids : goal.join-requires-clause-ids
-join-requires-clause-ids c = subst (λ (z : Section). All HasId z.derived.items) (sym c.in_ok-close.ensures.own) (own_ids c.requires.0 c.args.self c.requires.1)
+pub join-requires : goal.join-requires
+join-requires c = subst (λ (z : Section). All HasId z.derived.items) (sym c.in_ok-close.ensures.own) (own_ids c.requires.0 c.args.self c.requires.1)
 
 pub returns : goal.returns
 returns c = λ (reads : List Read) (here : IsDraft reads c.args.self).

@@ -1,0 +1,225 @@
+use crate::whole::read_tnef;
+use carrier_io::{Passed, Reason, Stop, le16, le32};
+use msg_tree::depth;
+use prop_names::Key;
+use prop_values::{Kind, Props, Value};
+use std::test::*;
+use tnef_attributes::{attribute_head, sum16};
+
+/// A signature, a key, the version and the code page 1252.
+const FRONT: [u8; 40] = [
+    0x78, 0x9f, 0x3e, 0x22, 1, 0, 1, 0x06, 0x90, 0x08, 0, 4, 0, 0, 0, 0, 0, 1, 0, 1, 0, 1, 0x07,
+    0x90, 0x06, 0, 8, 0, 0, 0, 0xe4, 4, 0, 0, 0, 0, 0, 0, 0xe8, 0,
+];
+
+/// The list of a message, with one property of id 0017 and value 2.
+const ONE: [u8; 23] = [
+    1, 3, 0x90, 6, 0, 12, 0, 0, 0, 1, 0, 0, 0, 3, 0, 0x17, 0, 2, 0, 0, 0, 0x1d, 0,
+];
+
+/// The interface of a message, and that of a storage.
+const MESSAGE: [u8; 16] = [7, 3, 2, 0, 0, 0, 0, 0, 0xc0, 0, 0, 0, 0, 0, 0, 0x46];
+
+const STORAGE: [u8; 16] = [0x0b, 0, 0, 0, 0, 0, 0, 0, 0xc0, 0, 0, 0, 0, 0, 0, 0x46];
+
+fn attribute(out: &mut Vec<u8>, level: u8, id: u32, value: &[u8]) -> Result<(), Fail> {
+    let len = u32::try_from(value.len()).ok().ok_or("a length")?;
+    out.extend_from_slice(&attribute_head(level, id, len))?;
+    out.extend_from_slice(value)?;
+    out.extend_from_slice(&le16(sum16(value)))?;
+    Ok(())
+}
+
+/// A stream with one attachment, whose Object has a size and bytes; the value begins at 105.
+fn with_object(rt: &HostRuntime, size: u32, value: &[&[u8]]) -> Result<Vec<u8>, Fail> {
+    let mut out = Vec::from_slice(rt.alloc(), &FRONT)?;
+    attribute(&mut out, 1, 0x0006_9003, &[0, 0, 0, 0])?;
+    let rendering = [1, 0, 0xff, 0xff, 0xff, 0xff, 0, 0, 0, 0, 0, 0, 0, 0];
+    attribute(&mut out, 2, 0x0006_9002, &rendering)?;
+    let mut list = Vec::from_slice(rt.alloc(), &[1, 0, 0, 0, 0x0d, 0, 1, 0x37, 1, 0, 0, 0])?;
+    list.extend_from_slice(&le32(size))?;
+    for part in value {
+        list.extend_from_slice(part)?;
+    }
+    attribute(&mut out, 2, 0x0006_9005, &list)?;
+    Ok(out)
+}
+
+/// A stream in which so many streams lie, each in the one before.
+fn nested(rt: &HostRuntime, levels: u32) -> Result<Vec<u8>, Fail> {
+    let mut stream = Vec::from_slice(rt.alloc(), &FRONT)?;
+    for _ in 0..levels {
+        let size = u32::try_from(stream.len()).ok().ok_or("a length")?;
+        let size = size.checked_add(16).ok_or("a size")?;
+        stream = with_object(rt, size, &[&MESSAGE, &stream, &[0, 0, 0]])?;
+    }
+    Ok(stream)
+}
+
+fn bytes_of<'a>(props: &Props<&'a [u8]>, id: u16, kind: Kind) -> Option<&'a [u8]> {
+    let k = props.find(&Key::Id(id), kind)?;
+    match &props.get(k).value {
+        Value::Bytes { bytes, .. } => Some(*bytes),
+        _ => None,
+    }
+}
+
+fn number_of(props: &Props<&[u8]>, id: u16, kind: Kind) -> Option<u64> {
+    let k = props.find(&Key::Id(id), kind)?;
+    match &props.get(k).value {
+        Value::Number { bits, .. } => Some(*bits),
+        _ => None,
+    }
+}
+
+fn fault_of(rt: &HostRuntime, stream: &[u8]) -> Result<(Reason, u64), Fail> {
+    if stream.len() > 268_435_456 {
+        return Err("too long".into());
+    }
+    match read_tnef(rt.alloc(), stream) {
+        Err(Stop::Fault(fault)) => Ok((fault.reason, fault.offset)),
+        Err(Stop::NoMemory) => Err("no memory".into()),
+        Ok(_) => Err("a message".into()),
+    }
+}
+
+#[test]
+fn faults_of_streams(rt: HostRuntime) -> Result<(), Fail> {
+    let mut named = Vec::from_slice(rt.alloc(), &FRONT)?;
+    let kind_two = [
+        1, 0, 0, 0, 3, 0, 0, 0x80, 8, 0x20, 6, 0, 0, 0, 0, 0, 0xc0, 0, 0, 0, 0, 0, 0, 0x46, 2, 0,
+        0, 0, 0, 0, 0, 0, 0, 0, 0, 0,
+    ];
+    attribute(&mut named, 1, 0x0006_9003, &kind_two)?;
+    let mut twice = Vec::from_slice(rt.alloc(), &FRONT)?;
+    twice.extend_from_slice(&ONE)?;
+    twice.extend_from_slice(&ONE)?;
+    let mut lone = Vec::from_slice(rt.alloc(), &FRONT)?;
+    attribute(&mut lone, 2, 0x0006_9005, &[0, 0, 0, 0])?;
+    let mut subjects = Vec::from_slice(rt.alloc(), &FRONT)?;
+    attribute(&mut subjects, 1, 0x0001_8004, b"one")?;
+    attribute(&mut subjects, 1, 0x0001_8004, b"two")?;
+    let mut wrong_sum = FRONT;
+    wrong_sum[38] = 0xe9;
+    let small = with_object(&rt, 15, &[&[0; 16]])?;
+    let other = with_object(&rt, 16, &[&[0; 16]])?;
+    let storage = with_object(&rt, 16, &[&STORAGE])?;
+    let inner = with_object(&rt, 79, &[&MESSAGE, &wrong_sum, &ONE, &[0]])?;
+    let deep = nested(&rt, 33)?;
+    let table: [(&[u8], Reason, u64); 9] = [
+        (&named, Reason::BadNameKind, 73),
+        (&twice, Reason::DoubleAttribute, 63),
+        (&lone, Reason::NoAttachment, 40),
+        (&subjects, Reason::DoubleAttribute, 54),
+        (&small, Reason::BadSize, 101),
+        (&other, Reason::BadInterface, 105),
+        (&storage, Reason::OleStorage, 105),
+        (&inner, Reason::BadSum, 159),
+        (&deep, Reason::TooDeep, 3977),
+    ];
+    for (stream, reason, offset) in &table {
+        let (found, place) = fault_of(&rt, stream)?;
+        assert_eq!(rt; found, *reason);
+        assert_eq!(rt; place, *offset);
+    }
+    Ok(())
+}
+
+#[test]
+fn streams_in_streams(rt: HostRuntime) -> Result<(), Fail> {
+    let stream = nested(&rt, 32)?;
+    assert!(rt; stream.len() <= 268_435_456);
+    let accepted = read_tnef(rt.alloc(), &stream).ok().ok_or("a message")?;
+    assert_eq!(rt; depth(&accepted.tree), 32);
+    Ok(())
+}
+
+#[test]
+fn dates_and_lists(rt: HostRuntime) -> Result<(), Fail> {
+    let date = [0xe8, 7, 2, 0, 0x1d, 0, 0x0c, 0, 0, 0, 0, 0, 4, 0];
+    let mut stream = Vec::from_slice(rt.alloc(), &FRONT)?;
+    attribute(&mut stream, 1, 0x0003_8005, &date)?;
+    assert!(rt; stream.len() <= 1000);
+    let dated = read_tnef(rt.alloc(), &stream).ok().ok_or("a message")?;
+    let props = &dated.tree.top().props;
+    let sent = number_of(props, 0x0039, Kind::Time).ok_or("a time")?;
+    assert_eq!(rt; sent, 133_536_816_000_000_000);
+    let mut listed = Vec::from_slice(rt.alloc(), &stream)?;
+    let list = [1, 0, 0, 0, 2, 1, 0x39, 0, 1, 0, 0, 0, 0, 0, 0, 0];
+    attribute(&mut listed, 1, 0x0006_9003, &list)?;
+    assert!(rt; listed.len() <= 1000);
+    let accepted = read_tnef(rt.alloc(), &listed).ok().ok_or("a message")?;
+    let props = &accepted.tree.top().props;
+    assert_eq!(rt; props.len(), 1);
+    let kept = bytes_of(props, 0x0039, Kind::Binary).ok_or("bytes")?;
+    assert_eq!(rt; kept.len(), 0);
+    Ok(())
+}
+
+/// The list of a message: two named properties, and 600 bytes of the id 1009.
+fn list_of(rt: &HostRuntime, rtf: &[u8]) -> Result<Vec<u8>, Fail> {
+    let front = [
+        3, 0, 0, 0, 0x0b, 0, 5, 0x80, 8, 0x20, 6, 0, 0, 0, 0, 0, 0xc0, 0, 0, 0, 0, 0, 0, 0x46, 0,
+        0, 0, 0, 6, 0x85, 0, 0, 1, 0, 0, 0, 3, 0, 5, 0x80, 2, 0x20, 6, 0, 0, 0, 0, 0, 0xc0, 0, 0,
+        0, 0, 0, 0, 0x46, 1, 0, 0, 0, 8, 0, 0, 0, 0x4b, 0, 0x65, 0, 0x79, 0, 0, 0, 9, 0, 0, 0, 2,
+        1, 9, 0x10, 1, 0, 0, 0, 0x58, 2, 0, 0,
+    ];
+    let mut list = Vec::from_slice(rt.alloc(), &front)?;
+    list.extend_from_slice(rtf)?;
+    Ok(list)
+}
+
+/// A stream as Outlook sends it, with some bytes of text and an attachment's data.
+fn outlook(rt: &HostRuntime, rtf: &[u8], data: &[u8]) -> Result<Vec<u8>, Fail> {
+    let mut out = Vec::from_slice(rt.alloc(), &FRONT)?;
+    attribute(&mut out, 1, 0x0007_8008, b"IPM.Microsoft Mail.Note\0")?;
+    attribute(&mut out, 1, 0x0001_8004, b"Report\0")?;
+    attribute(&mut out, 1, 0x0001_8009, b"seventeen bytes!!")?;
+    attribute(&mut out, 1, 0x0006_9003, &list_of(rt, rtf)?)?;
+    let rendering = [1, 0, 5, 0, 0, 0, 32, 0, 32, 0, 0, 0, 0, 0];
+    attribute(&mut out, 2, 0x0006_9002, &rendering)?;
+    attribute(&mut out, 2, 0x0006_800f, data)?;
+    attribute(&mut out, 2, 0x0001_8010, b"notes.txt\0")?;
+    attribute(&mut out, 2, 0x0006_8011, b"metafile")?;
+    let list = [
+        2, 0, 0, 0, 3, 0, 5, 0x37, 1, 0, 0, 0, 0x1f, 0, 7, 0x37, 1, 0, 0, 0, 6, 0, 0, 0, 0x6e, 0,
+        0x74, 0, 0, 0, 0, 0,
+    ];
+    attribute(&mut out, 2, 0x0006_9005, &list)?;
+    Ok(out)
+}
+
+#[test]
+fn a_stream_of_outlook(rt: HostRuntime) -> Result<(), Fail> {
+    let rtf = vec![in rt.alloc(); 0x37u8; 600]?;
+    let data = vec![in rt.alloc(); 0x42u8; 5000]?;
+    let stream = outlook(&rt, &rtf, &data)?;
+    assert!(rt; stream.len() <= 268_435_456);
+    let accepted = read_tnef(rt.alloc(), &stream).ok().ok_or("a message")?;
+    let top = accepted.tree.top();
+    assert_eq!(rt; top.props.len(), 5);
+    let class = bytes_of(&top.props, 0x001a, Kind::String8).ok_or("a class")?;
+    assert_eq!(rt; class, b"IPM.Note".as_slice());
+    let subject = bytes_of(&top.props, 0x0037, Kind::String8).ok_or("a subject")?;
+    assert_eq!(rt; subject, b"Report".as_slice());
+    let body = bytes_of(&top.props, 0x1009, Kind::Binary).ok_or("a body")?;
+    assert_eq!(rt; body, rtf.as_slice());
+    assert_eq!(rt; top.attachments.len(), 1);
+    let props = &top.attachments.get(0).props;
+    assert_eq!(rt; props.len(), 6);
+    let found = bytes_of(props, 0x3701, Kind::Binary).ok_or("data")?;
+    assert_eq!(rt; found, data.as_slice());
+    let title = bytes_of(props, 0x3704, Kind::String8).ok_or("a title")?;
+    assert_eq!(rt; title, b"notes.txt".as_slice());
+    let position = number_of(props, 0x370b, Kind::Integer32).ok_or("a position")?;
+    assert_eq!(rt; position, 5);
+    assert_eq!(rt; accepted.passed.len(), 1);
+    let passed = *accepted.passed.get(0);
+    let wanted = Passed {
+        attribute: true,
+        what: 0x0001_8009,
+        offset: 93,
+    };
+    assert_eq!(rt; passed, wanted);
+    Ok(())
+}
