@@ -1,6 +1,6 @@
 -- A message that is being gathered, with one attribute more.
 use Rattle.std.proofs.Common.{◌≡◌, ℕ, Bool, true, false, List, [], ◌∷◌, ◌++◌, map, cond, Option, Some, None, eqb, eq-eqb, refl, sym, ap, subst, ◌∙◌, append_assoc, arith}
-use Rattle.std.specs.Prelude.{All, filter_map, not, ◌||◌, ◌==◌, filter, if◌then◌else◌, MatchOption}
+use Rattle.std.specs.Prelude.{All, ◌||◌, ◌==◌, if◌then◌else◌}
 use Rattle.std.specs.Option.{option_map, option_to_list}
 use Rattle.std.specs.List.{flat_map, list_any, cons_option}
 use Rattle.std.proofs.lemmas.Grind.{flat_map-append}
@@ -8,14 +8,13 @@ use Rattle.std.proofs.lemmas.List.{append-nil, map-append}
 use Rattle.std.proofs.lemmas.List.Elements.{All-cons, filter-append, filter_map-append}
 use Rattle.std.proofs.lemmas.List.Folds.{list_any-append}
 use Rattle.std.proofs.lemmas.Bool.{eqb-true}
-use Rattle.carrier_model.specs.Attributes.{Attr}
 use Rattle.carrier_model.specs.Keys.{id}
 use Rattle.carrier_model.specs.LegacyAttributes.{Row, message_rows, attachment_rows, value_by, prop_by, legacy_prop, MESSAGE_PROPS, RECIPIENTS, RENDERING, ATTACHMENT, is_message_id, is_attachment_id}
-use Rattle.carrier_model.specs.TnefMessage.{Read, Part, Gift, has_attr, props_in, recipients_in, body_in, or_else, body_among, derived as derived_of, joined, beside, attached_by, groups, message_by}
-use Rattle.carrier_model.specs.Tree.{Attached, Body, nothing, embedded, message, attachments_from}
+use Rattle.carrier_model.specs.TnefMessage.{Read, props_in, recipients_in, body_in, or_else, body_among, derived as derived_of, joined, beside, attached_by, groups}
+use Rattle.carrier_model.specs.Tree.{Attached, Body, nothing, embedded}
 use Rattle.carrier_model.specs.Values.{Value, Prop}
-use Rattle.tnef_message.specs.Sections.{HasId, IsSection, beside_if}
-use Rattle.tnef_message.specs.Drafts.{Fits, begins, own_of, of_attachments, IsTable, IsBody, NoneYet, OneOpen, IsAttached, body_of, plain_gift}
+use Rattle.tnef_message.specs.Sections.{HasId, IsSection}
+use Rattle.tnef_message.specs.Drafts.{Fits, begins, own_of, of_attachments, IsTable, IsBody, OneOpen, IsAttached, body_of, plain_gift}
 use Rattle.tnef_message.specs.Entries.{Entered, IsFresh, attached_as, body_after, closed, list_after, lists_after, own_after}
 use Rattle.tnef_message.specs.declared.gifts.Gift as rust
 use Rattle.tnef_message.specs.declared.gifts.Gift.TheVariants.{Nothing, MessageList, RecipientTable, AttachmentList}

@@ -1,9 +1,8 @@
 -- Properties put into their places in a sorted list.
-use Rattle.std.proofs.Common.{◌≡◌, ℕ, ◌<◌, Bool, true, false, List, [], ◌∷◌, ◌++◌, length, get_or, refl, sym, ap, subst, ◌∙◌, arith}
-use Rattle.std.specs.Prelude.{Any, All, Contains, ◌&&◌, not, filter, cond}
+use Rattle.std.proofs.Common.{◌≡◌, ℕ, Bool, true, false, List, [], ◌∷◌, ◌++◌, refl, sym, ap, ◌∙◌}
+use Rattle.std.specs.Prelude.{Any, ◌&&◌, not, filter, cond}
 use Rattle.std.proofs.lemmas.List.Elements.{at_read, filter_agree}
-use Rattle.std.specs.declared.cmp.Ordering.{Ordering}
-use Rattle.std.specs.declared.cmp.Ordering.TheVariants.{Less, Equal, Greater}
+use Rattle.std.specs.declared.cmp.Ordering.TheVariants.{Equal}
 use Rattle.carrier_model.specs.Places.{IsPlace}
 use Rattle.carrier_model.specs.Sorted.{IsStrictlySorted, with_element, with_elements}
 use Rattle.carrier_model.specs.Keys.{is_id}

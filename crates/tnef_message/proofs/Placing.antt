@@ -1,5 +1,5 @@
 -- Whether an attribute may stand behind those that were read.
-use Rattle.std.proofs.Common.{◌≡◌, ℕ, Bool, true, false, List, [], ◌∷◌, ◌++◌, map, Option, Some, None, eqb, eq-eqb, refl, sym, ap, subst, ◌∙◌}
+use Rattle.std.proofs.Common.{◌≡◌, ℕ, Bool, true, false, List, [], ◌∷◌, Option, Some, None, eqb, eq-eqb, refl, sym, ap, ◌∙◌}
 use Rattle.std.specs.Prelude.{not, ◌||◌, ◌&&◌, ◌==◌, if◌then◌else◌, take_while, reverse}
 use Rattle.std.specs.List.{list_any}
 use Rattle.std.proofs.lemmas.Bool.{eqb-true}
@@ -7,11 +7,11 @@ use Rattle.std.proofs.lemmas.List.Folds.{list_any-append}
 use Rattle.carrier_model.specs.Reasons.{NO_ATTACHMENT, DOUBLE_ATTRIBUTE}
 use Rattle.carrier_model.specs.Trail.{Fault, Test, test, first_fault}
 use Rattle.carrier_model.specs.Attributes.{Attr}
-use Rattle.carrier_model.specs.LegacyAttributes.{RENDERING, MESSAGE_PROPS, ATTACHMENT, is_message_id, is_attachment_id}
-use Rattle.carrier_model.specs.TnefMessage.{Read, has_attr, is_there, place_tests}
+use Rattle.carrier_model.specs.LegacyAttributes.{RENDERING, is_message_id, is_attachment_id}
+use Rattle.carrier_model.specs.TnefMessage.{Read, has_attr, place_tests}
 use Rattle.carrier_model.specs.Tree.{Attached, Body}
 use Rattle.carrier_model.specs.Values.{Prop}
-use Rattle.tnef_message.specs.Drafts.{attrs_of, begins, own_of, of_attachments, OneOpen, NoneYet}
+use Rattle.tnef_message.specs.Drafts.{attrs_of, begins, own_of, OneOpen, NoneYet}
 use Rattle.tnef_message.specs.Sections.{IsSection}
 use Rattle.tnef_message.proofs.Groups.{seen_of, since_last, any_reverse, any_attrs}
 

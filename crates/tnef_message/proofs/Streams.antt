@@ -1,7 +1,6 @@
 -- A stream, read attribute by attribute.
-use Rattle.std.proofs.Common.{◌≡◌, ◌⊎◌, inl, inr, ℕ, zero, suc, ◌+◌, ◌<◌, ◌≤◌, Bool, true, false, List, [], ◌∷◌, ◌++◌, length, map, take, drop, Option, Some, None, Err, add-zero, refl, sym, ap, subst, ◌∙◌, append_assoc, arith}
+use Rattle.std.proofs.Common.{◌≡◌, inl, inr, ℕ, zero, suc, ◌+◌, ◌≤◌, true, List, [], ◌∷◌, ◌++◌, length, take, drop, Option, Some, None, Err, add-zero, refl, sym, ap, subst, ◌∙◌, append_assoc, arith}
 use Rattle.std.specs.Prelude.{zip, slice_get}
-use Rattle.std.specs.Option.{option_map}
 use Rattle.std.specs.List.{flat_map}
 use Rattle.std.proofs.lemmas.Grind.{flat_map-append}
 use Rattle.std.proofs.lemmas.List.{append-nil, map-append, length-append, take-append-drop, take_all}
@@ -15,15 +14,14 @@ use Rattle.carrier_model.specs.Items.{AllGood}
 use Rattle.carrier_model.specs.Grammar.{Form, Spans, Means, Whole, gives, and_then, inside}
 use Rattle.carrier_model.specs.LegacyAttributes.{ATTACHMENT}
 use Rattle.carrier_model.specs.TnefLists.{PropList, prop_list}
-use Rattle.carrier_model.specs.TnefMessage as plain
-use Rattle.carrier_model.specs.TnefMessage.{Meaning, Part, Passed, Read, content, inner_of, with_inner, part, place_tests, Stands, AttrFails, AllStand, FailsBehind, message_by, meaning_by, StreamMeans, MessageFails, stream, interface_tests, message_within}
+use Rattle.carrier_model.specs.TnefMessage.{Meaning, Part, Passed, Read, content, inner_of, with_inner, place_tests, Stands, AttrFails, AllStand, message_by, meaning_by, StreamMeans, MessageFails, stream, interface_tests, message_within}
 use Rattle.carrier_model.specs.Reasons.{TOO_DEEP}
 use Rattle.carrier_model.specs.Trail.{Fault, first_fault}
 use Rattle.carrier_model.specs.Tree.{Message}
 use Rattle.carrier_model.proofs.Messages.{taken_at}
 use Rattle.carrier_model.proofs.Reading.{continues_then, spans_nothing}
 use Rattle.carrier_model.proofs.Trees.{drop_at}
-use Rattle.tnef_message.specs.Contents.{inner_at, objects_at, GivesPart, FailsPart}
+use Rattle.tnef_message.specs.Contents.{objects_at, GivesPart}
 use Rattle.tnef_message.specs.Drafts.{IsDraft, attrs_of, parts_of}
 use Rattle.tnef_message.specs.declared.drafts.Draft.{Draft}
 use Rattle.tnef_message.specs.declared.gifts.Gift.{Gift}

@@ -1,8 +1,8 @@
-use Rattle.std.proofs.Common.{rules, ◌≡◌, ◌+◌, ◌++◌, ◌⊎◌, inl, inr, ℕ, List, [], ◌∷◌, true, false, eqb, refl, sym, ap, subst, ◌∙◌}
+use Rattle.std.proofs.Common.{rules, ◌≡◌, ◌+◌, ℕ, [], ◌∷◌, true, false, eqb, refl, sym, ap}
 use Rattle.std.specs.Prelude.{◌||◌}
 use Rattle.std.proofs.lemmas.List.{append-nil}
 use Rattle.std.proofs.lemmas.Result.{err_from_is_err_and}
-use Rattle.carrier_io.specs.Reads.{OnFault, FaultOnly}
+use Rattle.carrier_io.specs.Reads.{FaultOnly}
 use Rattle.carrier_io.proofs.Sides.{on_fault}
 use Rattle.carrier_model.specs.Grammar.{Means}
 use Rattle.carrier_model.specs.LegacyAttributes as ids

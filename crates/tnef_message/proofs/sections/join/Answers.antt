@@ -1,4 +1,3 @@
-use Rattle.std.proofs.Common.{sym}
 use Rattle.tnef_message.proofs.Joins.{stays_beside}
 use Rattle.tnef_message.proofs.sections.join.Goals as goal
 

@@ -1,11 +1,11 @@
-use Rattle.std.proofs.Common.{rules, ◌≡◌, ◌+◌, ◌≤◌, ◌<◌, ◌++◌, ◌⊎◌, inl, inr, ℕ, length, List, [], ◌∷◌, true, false, Option, Some, None, refl, sym, ap, subst, ◌∙◌, append_assoc, arith}
+use Rattle.std.proofs.Common.{◌≡◌, ◌+◌, ◌≤◌, ◌++◌, inl, inr, length, true, Some, None, refl, sym, ap, subst, ◌∙◌, append_assoc, arith}
 use Rattle.std.specs.Prelude.{slice_get}
 use Rattle.std.specs.Option.{option_map}
 use Rattle.std.proofs.lemmas.Result.{err_from_is_err_and}
-use Rattle.carrier_io.specs.Reads.{OnFault, FaultOnly}
+use Rattle.carrier_io.specs.Reads.{FaultOnly}
 use Rattle.carrier_io.specs.Reasons.{fault_of}
 use Rattle.carrier_io.proofs.Sides.{on_fault}
-use Rattle.carrier_model.specs.Attributes.{Attr, Attrs}
+use Rattle.carrier_model.specs.Attributes.{Attrs}
 use Rattle.carrier_model.specs.Grammar.{Means}
 use Rattle.carrier_model.specs.TnefLists.{prop_list}
 use Rattle.carrier_model.specs.TnefMessage as plain

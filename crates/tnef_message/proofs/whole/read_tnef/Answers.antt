@@ -1,6 +1,6 @@
-use Rattle.std.proofs.Common.{◌≡◌, ◌++◌, List, [], sym, ap, subst, ◌∙◌, arith}
+use Rattle.std.proofs.Common.{◌++◌, ap, ◌∙◌, arith}
 use Rattle.std.proofs.lemmas.Result.{err_from_is_err_and}
-use Rattle.carrier_model.specs.TnefMessage.{Meaning, GREATEST_LEVEL, message_within}
+use Rattle.carrier_model.specs.TnefMessage.{Meaning, GREATEST_LEVEL}
 use Rattle.msg_tree.specs.Meaning.{tree_of}
 use Rattle.tnef_message.proofs.Depths.{within_depth, stream_given, stream_stop}
 use Rattle.tnef_message.proofs.whole.read_tnef.Goals as goal

@@ -1,8 +1,6 @@
-use Rattle.std.proofs.Common.{List, refl, ◌≡◌, Result, Ok, Err}
+use Rattle.std.proofs.Common.{Result, Ok, Err}
 use Rattle.std.specs.Prelude.{OnOk}
-use Rattle.carrier_model.specs.TnefMessage.{Read, Part}
 use Rattle.tnef_attributes.specs.Views.{view}
-use Rattle.tnef_message.specs.Drafts.{IsDraft}
 use Rattle.tnef_message.proofs.Drafting.{draft_own, draft_new, draft_current, draft_unknown, current_ids}
 use Rattle.tnef_message.proofs.drafts.Draft.enter.Goals as goal
 

@@ -1,4 +1,4 @@
-use Rattle.std.proofs.Common.{List, refl, ◌≡◌, ◌∙◌, ap, subst, sym}
+use Rattle.std.proofs.Common.{List, ◌∙◌, ap, subst, sym}
 use Rattle.std.specs.Prelude.{All}
 use Rattle.carrier_model.specs.TnefMessage.{Read, joined}
 use Rattle.msg_tree.specs.Meaning.{list_of}

@@ -1,4 +1,4 @@
-use Rattle.std.proofs.Common.{rules, ◌≡◌}
+use Rattle.std.proofs.Common.{rules}
 use Rattle.tnef_message.proofs.drafts.Draft.open.Goals as goal
 
 pub returns : goal.returns

@@ -1,4 +1,4 @@
-use Rattle.std.proofs.Common.{List, rules, refl, sym, ◌∙◌, ◌≡◌, subst, Option, Some, None}
+use Rattle.std.proofs.Common.{List, subst, Option}
 use Rattle.carrier_model.specs.LegacyAttributes.{MESSAGE_PROPS}
 use Rattle.carrier_model.specs.TnefMessage.{Read}
 use Rattle.msg_tree.specs.Meaning.{list_of}
