@@ -1,5 +1,5 @@
 //! What the bytes of an attribute give, but for the list of an attachment.
-ghost use Rattle.std.specs.Prelude.{◌≡◌, ◌==◌, ◌+◌, ◌<◌, ◌≤◌, ◌++◌, ℕ, Bool, List, IfOk, IfErr, false, length, map, nat_eq};
+ghost use Rattle.std.specs.Prelude.{◌≡◌, ◌+◌, ◌≤◌, ◌++◌, ℕ, List, IfOk, IfErr, false, length, map, nat_eq};
 ghost use Rattle.std.specs.List.{flat_map};
 ghost use Rattle.carrier_io.specs.Reads.{OnFault};
 ghost use Rattle.carrier_model.specs.Grammar.{Means};

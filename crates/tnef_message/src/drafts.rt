@@ -1,9 +1,7 @@
 //! A message as far as its attributes were read.
 ghost use Rattle.std.specs.Prelude.{◌≡◌, ◌==◌, ◌<◌, ◌∷◌, [], ◌++◌, if◌then◌else◌, All, List, MatchOption, OnOk, IfOk, length, Some, None};
-ghost use Rattle.std.specs.Option.{option_to_list};
 ghost use Rattle.std.specs.List.{list_any};
 ghost use Rattle.carrier_io.specs.Reasons.{refusal};
-ghost use Rattle.carrier_model.specs.LegacyAttributes as plain;
 ghost use Rattle.carrier_model.specs.Reasons.{DOUBLE_ATTRIBUTE};
 ghost use Rattle.carrier_model.specs.Tree.{attachments_from, message};
 ghost use Rattle.carrier_model.specs.Trail.{first_fault};

@@ -1,10 +1,10 @@
 //! What the attributes of one message, or of one attachment, have given so far.
-ghost use Rattle.std.specs.Prelude.{◌≡◌, ◌==◌, ◌∷◌, [], ◌++◌, All, OnOk, IfOk, filter, not, length, ◌<◌};
+ghost use Rattle.std.specs.Prelude.{◌≡◌, ◌==◌, ◌∷◌, [], ◌++◌, All, OnOk, IfOk, filter, length, ◌<◌};
 ghost use Rattle.std.specs.Option.{option_to_list};
 ghost use Rattle.std.specs.List.{list_any};
 ghost use Rattle.carrier_model.specs.LegacyAttributes as plain;
 ghost use Rattle.carrier_model.specs.Sorted.{with_element, with_elements};
-ghost use Rattle.carrier_model.specs.TnefMessage.{joined, has_key_of};
+ghost use Rattle.carrier_model.specs.TnefMessage.{joined};
 ghost use Rattle.carrier_model.specs.Values.{prop_cmp};
 ghost use Rattle.tnef_message.specs.Sections.{HasId, beside_if, stays};
 

@@ -1,5 +1,5 @@
 //! Whole streams, and the streams that lie in them. [MS-OXTNEF 2.1.3]
-ghost use Rattle.std.specs.Prelude.{◌≡◌, ◌==◌, ◌+◌, ◌≤◌, ◌++◌, List, IfOk, IfErr, length, nat_eq, true, OnOk};
+ghost use Rattle.std.specs.Prelude.{◌≡◌, ◌+◌, ◌≤◌, IfOk, IfErr, length};
 ghost use Rattle.carrier_io.specs.Reads.{OnFault, Reads};
 ghost use Rattle.carrier_model.specs.LegacyAttributes as plain;
 ghost use Rattle.carrier_model.specs.TnefMessage.{TnefCarrier, TnefFault, message_within};
