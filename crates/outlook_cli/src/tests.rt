@@ -18,18 +18,18 @@ const NO_PROPERTIES: [u8; 15] = [
 
 /// How a run ended, what it wrote and what it reported.
 #[derive(Drop)]
-struct Outcome {
-    status: Status,
-    output: Vec<u8>,
-    report: Vec<u8>,
+pub(crate) struct Outcome {
+    pub(crate) status: Status,
+    pub(crate) output: Vec<u8>,
+    pub(crate) report: Vec<u8>,
 }
 
-fn refused(reason: Reason, offset: u64) -> Status {
+pub(crate) fn refused(reason: Reason, offset: u64) -> Status {
     Status::Refused(Fault { reason, offset })
 }
 
 /// Runs the words over an input, with devices that fail at the calls of these numbers.
-fn run_over(
+pub(crate) fn run_over(
     rt: &HostRuntime,
     words: &[&str],
     input: &[u8],
@@ -42,7 +42,7 @@ fn run_over(
         list.push(String::from_str(alloc, word)?)?;
     }
     let mut source = MemorySource::new(input.to_vec(alloc)?, failing_reads.to_vec(alloc)?);
-    let mut sink = MemorySink::new(alloc, 1000, failing_writes.to_vec(alloc)?)
+    let mut sink = MemorySink::new(alloc, 100_000, failing_writes.to_vec(alloc)?)
         .ok()
         .ok_or("memory")?;
     let mut report = MemorySink::new(alloc, 1000, Vec::new(alloc))
