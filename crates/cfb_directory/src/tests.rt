@@ -213,6 +213,30 @@ fn views(rt: HostRuntime) -> Result<(), Fail> {
     Ok(())
 }
 
+/// How many bytes the property stream has, and the view of its first 64.
+fn lengths(alloc: Global, bytes: &[u8]) -> Result<(usize, usize), Fail> {
+    if bytes.len() > 3072 {
+        return Err("too long")?;
+    }
+    let files = open_files(alloc, bytes, &mut Walk::new())?;
+    let view = files.stream(files.root(), PROPERTIES).ok_or("no stream")?;
+    if view.len() < 64 {
+        return Err("short")?;
+    }
+    Ok((view.len(), view.prefix(64)?.len()))
+}
+
+#[test]
+fn fronts(rt: HostRuntime) -> Result<(), Fail> {
+    let mut file = small_file(rt.alloc())?;
+    let longer = [(1144, 128), (1784, 65), (2048, 1), (2052, END)];
+    for (at, value) in longer {
+        put(&mut file, at, value);
+    }
+    assert_eq!(rt; lengths(rt.alloc(), file.as_slice())?, (65, 64));
+    Ok(())
+}
+
 /// A file whose root has so many empty streams in one row of left links.
 fn long_row(alloc: Global) -> Result<Vec<u8>, AllocError> {
     let mut file = vec![in alloc; 0; 2_581_504]?;
