@@ -1,5 +1,5 @@
 -- What is answered of a file, against what it holds.
-use Rattle.std.proofs.Common.{◌≡◌, ℕ, ◌≤◌, List, length, refl, sym, ◌∙◌, Ok, Err, Result}
+use Rattle.std.proofs.Common.{◌≡◌, ℕ, ◌≤◌, List, length, refl, Ok, Err, Result}
 use Rattle.carrier_model.specs.Trail.{Fault}
 use Rattle.carrier_model.specs.Files.{Files, open_of}
 use Rattle.carrier_model.specs.Holds.{Holds}

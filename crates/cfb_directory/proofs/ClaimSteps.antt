@@ -1,7 +1,7 @@
 -- Streams that are claimed one after another.
-use Rattle.std.proofs.Common.{◌≡◌, ◌≢◌, ℕ, zero, suc, ◌+◌, ◌-◌, ◌<◌, ◌≤◌, List, [], ◌∷◌, ◌++◌, length, get_or, map, filter, sum, Bool, true, false, ◌&&◌, cond, eqb, refl, sym, ◌∙◌, ap, subst, arith, Ok, Err, Result, inl, inr}
+use Rattle.std.proofs.Common.{◌≡◌, ℕ, zero, suc, ◌+◌, ◌-◌, ◌<◌, ◌≤◌, List, [], ◌∷◌, ◌++◌, length, get_or, map, filter, Bool, true, false, ◌&&◌, cond, eqb, refl, sym, ◌∙◌, ap, subst, arith, Ok, Err, Result, inl, inr}
 use Rattle.std.specs.List.{range_with_len, AllByRecursion}
-use Rattle.std.proofs.lemmas.Bool.{cases_Bool, cases_eq, eq-eqb, ne_eqb, eqb-true}
+use Rattle.std.proofs.lemmas.Bool.{cases_Bool, cases_eq, eq-eqb, ne_eqb}
 use Rattle.std.proofs.lemmas.List.{append_assoc, append-nil, map-append, get_or_append_left}
 use Rattle.std.proofs.lemmas.List.Sums.{sum-map, sum_by_push}
 use Rattle.std.proofs.Math.Seq.{get_or-append_seam}
@@ -22,7 +22,7 @@ use Rattle.cfb_sectors.specs.Seen.{stream as stream_seen}
 use Rattle.cfb_sectors.specs.States.{State, entries, entry_of, place_of, chain_claimed, stream_claimed}
 use Rattle.cfb_sectors.specs.Views.{entry as entry_seen}
 use Rattle.cfb_directory.specs.Walks.{directory_of}
-use Rattle.cfb_directory.specs.Nodes.{is_wanted, claims_in, chain_lengths, AreNodes, entry_in, place_in, stream_in}
+use Rattle.cfb_directory.specs.Nodes.{is_wanted, claims_in, chain_lengths, AreNodes}
 use Rattle.cfb_directory.specs.declared.node.Node.{Node}
 
 abbrev pub ahead : List Claim → Result (List Claim) Fault → Result (List Claim) Fault

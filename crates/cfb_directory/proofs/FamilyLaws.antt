@@ -1,10 +1,10 @@
 -- Children of entries, by number.
-use Rattle.std.proofs.Common.{◌≡◌, ◌≢◌, ℕ, zero, suc, ◌+◌, ◌<◌, ◌≤◌, add-one, List, [], ◌∷◌, ◌++◌, length, get_or, set, take, drop, map, Bool, true, false, cond, eqb, refl, sym, ◌∙◌, ap, subst, arith, None, Some, Option, Ok, Err, Result, inl, inr}
-use Rattle.std.proofs.lemmas.Bool.{cases_Bool, cond-true, cond-false, cases_eq, eq-eqb, ne_eqb, eqb-true}
+use Rattle.std.proofs.Common.{◌≡◌, ℕ, suc, ◌+◌, ◌<◌, ◌≤◌, add-one, List, [], ◌∷◌, ◌++◌, length, get_or, set, take, drop, map, true, cond, eqb, refl, sym, ◌∙◌, ap, subst, None, Option, Ok, Result, inl, inr}
+use Rattle.std.proofs.lemmas.Bool.{cases_Bool, cases_eq, eq-eqb, ne_eqb, eqb-true}
 use Rattle.std.proofs.Math.Seq.{take-suc, drop-cons, map-set_same}
 use Rattle.std.proofs.Math.ListN.{length-map}
 use Rattle.std.proofs.Common.{get_or-set_same, get_or-set_other}
-use Rattle.std.proofs.lemmas.List.{map-set, get_or-map, drop_all}
+use Rattle.std.proofs.lemmas.List.{map-set, drop_all}
 use Rattle.std.proofs.lemmas.List.Folds.{list_any-append}
 use Rattle.carrier_model.specs.Trail.{Fault}
 use Rattle.carrier_model.specs.Outcomes.{◌>>=◌}

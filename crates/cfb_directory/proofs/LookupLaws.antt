@@ -1,5 +1,5 @@
 -- Look-ups in a tree that entries and their children make.
-use Rattle.std.proofs.Common.{◌≡◌, ℕ, zero, suc, ◌+◌, ◌<◌, ◌≤◌, List, [], ◌∷◌, length, map, Bool, true, false, not, ◌&&◌, cond, nat_eq, refl, sym, ◌∙◌, ap, subst, arith, Some, None, Option, inl, inr}
+use Rattle.std.proofs.Common.{◌≡◌, ℕ, zero, suc, ◌<◌, ◌≤◌, List, [], ◌∷◌, length, map, Bool, true, false, not, ◌&&◌, cond, nat_eq, refl, sym, ◌∙◌, ap, subst, arith, Some, None, Option, inl, inr}
 use Rattle.std.specs.Prelude.{is_some, IfSome, All}
 use Rattle.std.proofs.Common.{get_or}
 use Rattle.std.proofs.lemmas.List.{get_or-map}
@@ -10,7 +10,7 @@ use Rattle.std.specs.Prelude.{slice_get}
 use Rattle.std.proofs.lemmas.Option.{slice_get-map}
 use Rattle.std.proofs.lemmas.Cmp.{nat_list_eq_equiv}
 use Rattle.std.proofs.lemmas.Slice.Eq.{bytes_eq-Decides}
-use Rattle.carrier_model.specs.Files.{Files, Children, none, storage, stream, folded, name_of}
+use Rattle.carrier_model.specs.Files.{Files, Children, none, folded, name_of}
 use Rattle.carrier_model.specs.Links.{is_storage}
 use Rattle.carrier_model.specs.Lookups.{Found, storage_named, stream_named}
 use Rattle.cfb_directory.specs.Families.{family_at, index_at}

@@ -1,10 +1,9 @@
 -- Names that are looked up among those before them.
-use Rattle.std.proofs.Common.{◌≡◌, ℕ, suc, ◌+◌, ◌<◌, ◌≤◌, add-one, List, [], ◌∷◌, ◌++◌, length, get_or, take, drop, map, Bool, true, false, not, ◌||◌, cond, refl, sym, ◌∙◌, ap, subst, arith, Ok, Err, Some, None, Option, Result, inl, inr, nat_eq}
+use Rattle.std.proofs.Common.{◌≡◌, ℕ, suc, ◌+◌, ◌<◌, ◌≤◌, add-one, List, [], ◌∷◌, ◌++◌, length, get_or, take, drop, map, Bool, true, false, cond, refl, sym, ◌∙◌, ap, subst, Ok, Err, Some, None, Option, Result, inl, inr, nat_eq}
 use Rattle.std.specs.Prelude.{IsSome, is_some}
-use Rattle.std.specs.List.{list_any}
 use Rattle.std.specs.BTreeMap.{BTreeMap, get_by, UpdatesBy}
 use Rattle.std.specs.Cmp.Lexicographic.{slice_cmp, pointwise}
-use Rattle.std.specs.Ordering.{nat_cmp, is_eq, eq_by_cmp}
+use Rattle.std.specs.Ordering.{nat_cmp, is_eq}
 use Rattle.std.specs.Map.{KeepsOthers, IsKeyTest, AreApart, lookup}
 use Rattle.std.proofs.Common.{eqb}
 use Rattle.std.proofs.lemmas.Bool.{cases_Bool, cond-true, cond-false, eqb-true}
@@ -16,7 +15,7 @@ use Rattle.std.proofs.lemmas.Map.Text.{is_eq-slice_cmp}
 use Rattle.std.proofs.lemmas.Slice.Eq.{bytes_eq-Decides}
 use Rattle.carrier_model.specs.Trail.{Fault}
 use Rattle.carrier_model.specs.Reasons.{DOUBLE_NAME}
-use Rattle.carrier_model.specs.Outcomes.{◌>>=◌, check}
+use Rattle.carrier_model.specs.Outcomes.{◌>>=◌}
 use Rattle.carrier_model.specs.Files.{is_among, family_names, names_of}
 use Rattle.carrier_model.specs.Chains.{member}
 use Rattle.carrier_model.specs.Links.{Directory}

@@ -1,16 +1,15 @@
 -- An opened file, from its parts.
-use Rattle.std.proofs.Common.{◌≡◌, ℕ, zero, suc, ◌+◌, ◌<◌, ◌≤◌, List, [], ◌∷◌, ◌++◌, length, get_or, filter, map, take, ◌-◌, ◌/◌, Bool, true, false, ◌&&◌, ◌||◌, not, cond, eqb, refl, sym, ◌∙◌, ap, subst, arith, Ok, Err, Result, inl, inr}
+use Rattle.std.proofs.Common.{◌≡◌, ℕ, zero, suc, ◌+◌, ◌<◌, ◌≤◌, List, [], ◌∷◌, ◌++◌, length, get_or, filter, map, take, ◌-◌, ◌/◌, Bool, true, false, ◌&&◌, ◌||◌, cond, eqb, refl, sym, ◌∙◌, ap, subst, arith, Ok, Err, Result, inl, inr}
 use Rattle.std.specs.List.{range_with_len}
-use Rattle.std.specs.Char.{to_ascii_lowercase}
 use Rattle.std.proofs.lemmas.List.{length-take, length-map, get_or_past}
 use Rattle.cfb_sectors.specs.Views.{entry as entry_seen}
-use Rattle.std.proofs.lemmas.Bool.{cases_Bool, cases_eq, cases_lt, eq-eqb, ne_eqb, eqb-true}
+use Rattle.std.proofs.lemmas.Bool.{cases_Bool, cases_eq, cases_lt, ne_eqb}
 use Rattle.carrier_model.specs.Trail.{Fault}
 use Rattle.carrier_model.specs.Outcomes.{◌>>=◌, mapped}
 use Rattle.carrier_model.specs.Chains.{member}
 use Rattle.carrier_model.specs.Entries.{Entry, entry_at}
-use Rattle.carrier_model.specs.Files.{Files, Children, none, Opened, Claim, directory_in, first_link, all_families, names_of, stream_ids, claims_of, chain_in, tree_of, files_of, opened_of, open_of}
-use Rattle.carrier_model.specs.Links.{Directory, Links, leaf, node, ids, siblings, is_storage, has_type, IsChild, Linked, AreNew, links_of, below_depth, below_link, no_link}
+use Rattle.carrier_model.specs.Files.{Files, none, Opened, Claim, directory_in, first_link, all_families, names_of, stream_ids, claims_of, chain_in, tree_of, files_of, opened_of, open_of}
+use Rattle.carrier_model.specs.Links.{Directory, Links, leaf, node, ids, Linked, links_of, below_depth, below_link}
 use Rattle.carrier_model.specs.Loads.{Loaded, load_of, taken_by, stream_of}
 use Rattle.carrier_model.specs.Marks.{Marks}
 use Rattle.carrier_model.specs.Streams.{Stream}
@@ -18,7 +17,7 @@ use Rattle.carrier_io.specs.declared.reasons.Stop.{Stop}
 use Rattle.carrier_io.specs.declared.reasons.Stop.TheVariants as stops
 use Rattle.carrier_io.specs.Reads.{Fails}
 use Rattle.cfb_sectors.specs.States.{State, entries, entry_of, place_of}
-use Rattle.cfb_directory.specs.Nodes.{AreNodes, no_entry, entry_in, place_in, stream_in, is_wanted, claims_in}
+use Rattle.cfb_directory.specs.Nodes.{AreNodes, no_entry, place_in, is_wanted, claims_in}
 use Rattle.std.specs.List.{All}
 use Rattle.std.specs.Cmp.Lexicographic.{pointwise}
 use Rattle.std.proofs.lemmas.List.Elements.{All-head, All-tail}
@@ -28,16 +27,15 @@ use Rattle.carrier_io.specs.Steps.{stepped}
 use Rattle.cfb_directory.specs.Families.{family_at, index_at}
 use Rattle.cfb_directory.specs.Named.{key_of, first_named, are_apart}
 use Rattle.cfb_directory.specs.Outlines.{linked_of, IsOutline}
-use Rattle.cfb_directory.specs.Shapes.{table_of, key_in, deepest, tree_at, shape}
+use Rattle.cfb_directory.specs.Shapes.{table_of, key_in, deepest, shape}
 use Rattle.cfb_directory.specs.Trees.{Table, built, under, ends}
 use Rattle.cfb_directory.specs.Walks.{directory_of}
-use Rattle.cfb_directory.specs.declared.families.Family.{Family}
 use Rattle.cfb_directory.specs.declared.node.Node.{Node}
 use Rattle.cfb_directory.specs.declared.outline.Outline.{Outline}
 use Rattle.cfb_directory.proofs.KidLaws.{in-left, in-right, self}
 use Rattle.cfb_directory.proofs.NameLaws.{families_apart}
 use Rattle.cfb_directory.proofs.OutlineLaws.{outline_links, outline_own, outline_kids, outline_families, outline_others}
-use Rattle.cfb_directory.proofs.TreeLaws.{HasKids, Agrees, levels, levels_bound, tree_built, all_ends, enough}
+use Rattle.cfb_directory.proofs.TreeLaws.{HasKids, Agrees, levels, levels_bound, tree_built, all_ends}
 
 filter-same : (f g : ℕ → Bool) (a n : ℕ) → ((k : ℕ) → k < a + n → f k ≡ g k) → filter f (range_with_len a n) ≡ filter g (range_with_len a n)
 filter-same f g a zero same = refl

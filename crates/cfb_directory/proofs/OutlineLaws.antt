@@ -1,17 +1,15 @@
 -- The outline of a directory, from its parts.
-use Rattle.std.proofs.Common.{◌≡◌, ℕ, suc, ◌+◌, ◌<◌, ◌≤◌, List, [], ◌∷◌, ◌++◌, length, map, Bool, true, false, cond, eqb, refl, sym, ◌∙◌, ap, subst, arith, Ok, Err, Result, inl, inr}
-use Rattle.std.proofs.Common.{set, get_or, get_or-set_same, get_or-set_other}
+use Rattle.std.proofs.Common.{◌≡◌, ℕ, suc, ◌+◌, ◌<◌, List, [], ◌∷◌, length, map, Bool, true, false, cond, refl, sym, ◌∙◌, ap, subst, arith, Ok, inl, inr}
+use Rattle.std.proofs.Common.{set, get_or-set_same, get_or-set_other}
 use Rattle.std.specs.Prelude.{replicate}
 use Rattle.std.proofs.Math.ListN.{length-set, length-replicate}
 use Rattle.std.proofs.lemmas.List.{get_or-replicate}
 use Rattle.std.proofs.lemmas.Bool.{cases_Bool, cases_eq, eq-eqb, ne_eqb}
 use Rattle.carrier_model.specs.Entries.{Entry}
 use Rattle.carrier_model.specs.Marks.{Marks}
-use Rattle.carrier_model.specs.Trail.{Fault}
-use Rattle.carrier_model.specs.Outcomes.{◌>>=◌, mapped}
 use Rattle.carrier_model.specs.Chains.{member}
-use Rattle.carrier_model.specs.Files.{first_link, families, all_families, names_of}
-use Rattle.carrier_model.specs.Links.{Directory, Link, Links, ids, siblings, Linked, AreNew, links_of}
+use Rattle.carrier_model.specs.Files.{first_link, all_families, names_of}
+use Rattle.carrier_model.specs.Links.{Directory, Links, ids, siblings, Linked, AreNew, links_of}
 use Rattle.carrier_model.proofs.VisitLaws.{visit-sound, unseen-le}
 use Rattle.carrier_io.specs.declared.reasons.Stop.{Stop}
 use Rattle.carrier_io.specs.declared.reasons.Stop.TheVariants as stops

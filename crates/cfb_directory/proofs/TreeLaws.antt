@@ -1,19 +1,13 @@
 -- Trees from the children of each entry.
-use Rattle.std.proofs.Common.{◌≡◌, ℕ, zero, suc, ◌+◌, ◌<◌, ◌≤◌, List, [], ◌∷◌, ◌++◌, length, map, Bool, true, false, ◌||◌, not, cond, eqb, leb, max, refl, sym, ◌∙◌, ap, subst, arith, inl, inr}
-use Rattle.std.proofs.lemmas.Bool.{cases_Bool, cases_eq, eq-eqb, ne_eqb, eqb-true, leb-true}
-use Rattle.std.proofs.lemmas.List.{append-nil, append_assoc, map-append}
+use Rattle.std.proofs.Common.{◌≡◌, ℕ, zero, suc, ◌+◌, ◌<◌, ◌≤◌, List, [], ◌∷◌, ◌++◌, Bool, true, false, ◌||◌, not, cond, eqb, leb, max, refl, ◌∙◌, ap, arith, inl, inr}
+use Rattle.std.proofs.lemmas.Bool.{cases_Bool, eqb-true, leb-true}
 use Rattle.std.proofs.lemmas.List.Folds.{list_any-append, list_all-append}
 use Rattle.carrier_model.specs.Chains.{member}
-use Rattle.carrier_model.specs.Entries.{Entry}
-use Rattle.carrier_model.specs.Files.{Children, none, storage, stream, tree_of, families, name_of}
-use Rattle.carrier_model.proofs.VisitLaws.{AreNew-split}
-use Rattle.carrier_model.specs.Links.{Directory, Links, leaf, node, ids, siblings, is_storage, Linked, AreNew, IsChild, no_link}
+use Rattle.carrier_model.specs.Files.{Children, none, storage, stream, tree_of, name_of}
+use Rattle.carrier_model.specs.Links.{Directory, Links, leaf, node, ids, siblings, is_storage, Linked, no_link}
 use Rattle.carrier_model.specs.Streams.{Stream}
-use Rattle.cfb_directory.specs.Families.{children_in}
 use Rattle.std.specs.List.{list_all}
-use Rattle.cfb_directory.specs.Trees.{Table, tag_at, built, under, ends}
-use Rattle.cfb_directory.specs.Walks.{placed}
-use Rattle.cfb_directory.specs.declared.links.Member.{Member}
+use Rattle.cfb_directory.specs.Trees.{Table, built, under, ends}
 
 -- the children of each entry are the siblings of its child link
 abbrev pub HasKids : (ℕ → List ℕ) → Links → Type 0

@@ -1,5 +1,5 @@
 -- Steps of a walk with pending links.
-use Rattle.std.proofs.Common.{◌≡◌, ◌≢◌, ℕ, zero, suc, ◌+◌, ◌-◌, ◌<◌, ◌≤◌, List, [], ◌∷◌, ◌++◌, length, Bool, true, false, cond, eqb, refl, sym, ◌∙◌, ap, arith, Ok, Err, Some, Result, ◌⊎◌, inl, inr, reverse}
+use Rattle.std.proofs.Common.{◌≡◌, ℕ, suc, ◌<◌, ◌≤◌, List, [], ◌∷◌, ◌++◌, length, eqb, refl, sym, ◌∙◌, ap, arith, Ok, Err, Some, Result, inl, inr, reverse}
 use Rattle.std.specs.List.{All}
 use Rattle.std.proofs.lemmas.List.Elements.{All-pop, All-append, All-cons, All-nil}
 use Rattle.std.proofs.lemmas.Bool.{ne_eqb, eq-eqb, cond-true, cases_eq}
@@ -7,7 +7,7 @@ use Rattle.std.proofs.lemmas.List.{append_assoc, append-nil, reverse-append}
 use Rattle.carrier_model.specs.Trail.{Fault}
 use Rattle.carrier_model.specs.Outcomes.{◌>>=◌, mapped}
 use Rattle.carrier_model.specs.Entries.{Entry}
-use Rattle.carrier_model.specs.Links.{Directory, Links, leaf, node, no_link, ids, visited, left_of, right_of, below_of, visit, links_of, below_depth, below_link}
+use Rattle.carrier_model.specs.Links.{Directory, Links, leaf, node, no_link, ids, visited, left_of, right_of, below_of, visit, links_of, below_depth}
 use Rattle.carrier_model.proofs.VisitLaws.{body, visit-body, visit_whole}
 use Rattle.carrier_io.specs.declared.reasons.Stop.{Stop}
 use Rattle.carrier_io.specs.declared.reasons.Stop.TheVariants as stops

@@ -1,8 +1,7 @@
-use Rattle.std.proofs.Common.{◌≡◌, ◌<◌, ℕ, List, [], None, ◌+◌, length, ◌∷◌, ◌++◌, get_or, set, sym, ◌∙◌, ap, arith, refl, rules}
+use Rattle.std.proofs.Common.{◌≡◌, ◌<◌, [], length, ◌∷◌, ◌++◌, get_or, sym, ◌∙◌, ap, refl, rules}
 use Rattle.std.proofs.lemmas.List.{get_or-map}
 use Rattle.cfb_directory.specs.declared.families.Family.{Family}
-use Rattle.cfb_directory.specs.Families.{family_at, index_at, children_in}
-use Rattle.cfb_directory.specs.Walks.{IsInside}
+use Rattle.cfb_directory.specs.Families.{family_at}
 use Rattle.cfb_directory.proofs.FamilyLaws.{family_more, index_same}
 use Rattle.cfb_directory.proofs.families.group_children.Goals as goal
 

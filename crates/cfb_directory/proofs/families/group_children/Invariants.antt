@@ -1,4 +1,4 @@
-use Rattle.std.proofs.Common.{◌≡◌, ℕ, ◌<◌, List, [], None, vec_len, take}
+use Rattle.std.proofs.Common.{◌≡◌, ℕ, ◌<◌, List, None, vec_len, take}
 use Rattle.cfb_directory.specs.Families.{family_at, index_at, children_in}
 use Rattle.cfb_directory.proofs.families.group_children.Given as goal
 

@@ -1,9 +1,8 @@
-use Rattle.std.proofs.Common.{◌≡◌, ◌<◌, ℕ, List, [], None, ◌+◌, length, ◌∷◌, ◌++◌, get_or, set, map, cond, sym, ◌∙◌, ap, arith, refl, rules, subst, Ok}
+use Rattle.std.proofs.Common.{◌≡◌, ◌<◌, ℕ, List, [], length, get_or, sym, ◌∙◌, ap, rules, Ok}
 use Rattle.std.proofs.lemmas.List.{get_or-map}
 use Rattle.std.proofs.lemmas.Result.{err_from_is_err_and}
-use Rattle.carrier_model.specs.Files.{family_names, names_of}
-use Rattle.cfb_directory.specs.declared.families.Family.{Family}
-use Rattle.cfb_directory.specs.Families.{family_at, index_at}
+use Rattle.carrier_model.specs.Files.{family_names}
+use Rattle.cfb_directory.specs.Families.{family_at}
 use Rattle.cfb_directory.specs.Named.{found, key_of, first_named}
 use Rattle.cfb_directory.specs.Walks.{directory_of}
 use Rattle.cfb_directory.proofs.FamilyLaws.{family_same, index_more, names_step, names_stop, names_done}

@@ -1,4 +1,4 @@
-use Rattle.std.proofs.Common.{◌≡◌, ℕ, ◌<◌, List, [], None, vec_len, take, drop, map, cond, Result, Ok}
+use Rattle.std.proofs.Common.{◌≡◌, ℕ, ◌<◌, List, [], vec_len, take, drop, map, cond}
 use Rattle.carrier_model.specs.Chains.{member}
 use Rattle.carrier_model.specs.Files.{names_of}
 use Rattle.cfb_sectors.specs.States.{entries}

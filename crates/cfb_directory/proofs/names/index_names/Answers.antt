@@ -1,8 +1,8 @@
-use Rattle.std.proofs.Common.{◌≡◌, ◌<◌, ◌≤◌, ℕ, List, take, length, get_or, sym, ◌∙◌, ap, arith, subst, None, Some, cond, nat_eq}
+use Rattle.std.proofs.Common.{◌≡◌, take, get_or, sym, ◌∙◌, ap, subst, None, Some, cond, nat_eq}
 use Rattle.std.specs.Prelude.{IsSome}
 use Rattle.std.specs.Cmp.Lexicographic.{pointwise}
-use Rattle.carrier_model.specs.Files.{family_names, folded, name_of}
-use Rattle.cfb_directory.specs.Named.{found, key_of, first_named}
+use Rattle.carrier_model.specs.Files.{folded, name_of}
+use Rattle.cfb_directory.specs.Named.{key_of, first_named}
 use Rattle.cfb_directory.specs.Walks.{directory_of}
 use Rattle.cfb_directory.proofs.NameLaws.{family_step, family_stop, family_done, family_more}
 use Rattle.cfb_directory.proofs.names.index_names.Goals as goal

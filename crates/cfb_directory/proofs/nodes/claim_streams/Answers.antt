@@ -1,10 +1,9 @@
-use Rattle.std.proofs.Common.{◌≡◌, ◌+◌, ◌<◌, ◌≤◌, ℕ, List, [], ◌∷◌, ◌++◌, length, filter, true, false, sym, ◌∙◌, ap, arith, refl, rules, subst, Ok, Result}
+use Rattle.std.proofs.Common.{◌≡◌, ◌<◌, ◌≤◌, length, true, ◌∙◌, arith, refl, rules}
 use Rattle.std.proofs.lemmas.Result.{err_from_is_err_and}
 use Rattle.cfb_sectors.specs.States.{entries}
 use Rattle.cfb_sectors.specs.Views.{entry as entry_seen}
 use Rattle.cfb_directory.specs.Nodes.{is_wanted}
 use Rattle.cfb_directory.specs.Walks.{directory_of}
-use Rattle.cfb_directory.specs.declared.node.Node.{Node}
 use Rattle.cfb_directory.proofs.ClaimSteps.{same-again, wanted_is, progress_init, progress_done, skip_step, claim_step, stop_step, within}
 use Rattle.cfb_directory.proofs.nodes.claim_streams.Goals as goal
 use Rattle.cfb_directory.proofs.nodes.claim_streams.Goals.{then-is_visited_stream+in_ok-stream+in_ok-push, else-is_visited_stream+in_ok-push-2}

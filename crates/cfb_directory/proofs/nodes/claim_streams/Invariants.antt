@@ -1,12 +1,10 @@
-use Rattle.std.proofs.Common.{◌≡◌, ℕ, ◌+◌, ◌-◌, ◌<◌, ◌≤◌, List, [], length, filter, vec_len, Result, Ok}
-use Rattle.std.specs.List.{range_with_len, AllByRecursion}
-use Rattle.carrier_io.specs.Steps.{stepped}
-use Rattle.carrier_model.specs.Files.{Claim}
+use Rattle.std.proofs.Common.{◌≡◌, ℕ, ◌+◌, ◌≤◌, List, filter, vec_len}
+use Rattle.std.specs.List.{range_with_len}
 use Rattle.carrier_model.specs.Marks.{Marks, unmarked}
 use Rattle.cfb_sectors.specs.States.{entries}
-use Rattle.cfb_directory.specs.Nodes.{is_wanted, claims_in, AreNodes, chain_lengths}
+use Rattle.cfb_directory.specs.Nodes.{is_wanted, claims_in}
 use Rattle.cfb_directory.specs.Walks.{directory_of}
-use Rattle.cfb_directory.proofs.ClaimSteps.{ahead, Progress}
+use Rattle.cfb_directory.proofs.ClaimSteps.{Progress}
 use Rattle.cfb_directory.proofs.nodes.claim_streams.Given as goal
 
 abbrev pub invariant-loop-id : goal.invariant-loop-id

@@ -1,12 +1,9 @@
-use Rattle.std.proofs.Common.{rules, ◌≡◌, ◌+◌, ◌≤◌, ◌<◌, ◌^◌, length, IfOk, Ok, ℕ, List, [], sym, ◌∙◌, ap, subst, arith, refl}
+use Rattle.std.proofs.Common.{◌≡◌, ◌+◌, ◌≤◌, length, [], sym, ◌∙◌, arith}
 use Rattle.std.proofs.lemmas.Result.{err_from_is_err_and}
-use Rattle.carrier_model.specs.Files.{Opened, open_of, opened_of, steps_of}
-use Rattle.carrier_model.specs.Loads.{load_of, taken_by, mini_bound}
+use Rattle.carrier_model.specs.Loads.{taken_by, mini_bound}
 use Rattle.carrier_model.specs.Sectors.{sector_count}
-use Rattle.carrier_io.specs.Reads.{Gives}
-use Rattle.cfb_directory.specs.Shown.{files, mini_limit}
+use Rattle.cfb_directory.specs.Shown.{files}
 use Rattle.cfb_directory.specs.Walks.{directory_of}
-use Rattle.cfb_directory.specs.declared.outline.Outline.{Outline}
 use Rattle.cfb_directory.proofs.BothSides.{both_sides, found_sides}
 use Rattle.cfb_directory.proofs.OpenLaws.{load_stops, linked_stops, open_stops, open_done, shape_is, shape_ends, shape_named, shape_apart, shape_short, load_same, opened_once, exact_steps, stopped_same, opened_same, files_same}
 use Rattle.cfb_directory.proofs.opening.open_files.Goals as goal

@@ -1,18 +1,17 @@
-use Rattle.std.proofs.Common.{◌≡◌, ℕ, ◌+◌, ◌<◌, List, [], ◌∷◌, ◌++◌, length, map, cond, set, true, sym, ◌∙◌, ap, subst, rules, Ok, refl, arith}
-use Rattle.std.specs.Prelude.{All}
+use Rattle.std.proofs.Common.{◌≡◌, ℕ, ◌+◌, [], ◌∷◌, map, cond, set, true, sym, ◌∙◌, ap, subst, refl, arith}
 use Rattle.std.proofs.lemmas.Result.{err_from_is_err_and}
-use Rattle.carrier_model.specs.Files.{first_link, all_families, names_of}
+use Rattle.carrier_model.specs.Files.{all_families, names_of}
 use Rattle.carrier_model.specs.Links.{ids}
 use Rattle.carrier_model.specs.Marks.{Marks}
 use Rattle.cfb_sectors.specs.States.{entries}
 use Rattle.cfb_sectors.specs.Views.{entry as entry_seen}
-use Rattle.cfb_directory.specs.Families.{family_at, index_at, children_in}
+use Rattle.cfb_directory.specs.Families.{family_at, children_in}
 use Rattle.carrier_model.specs.Chains.{member}
 use Rattle.carrier_io.specs.Reads.{Fails}
 use Rattle.cfb_directory.specs.Named.{key_of, first_named}
 use Rattle.cfb_directory.specs.Walks.{directory_of, walked, placed}
 use Rattle.cfb_directory.proofs.KidLaws.{children-inside}
-use Rattle.cfb_directory.proofs.OutlineLaws.{outline_links, outline_own, outline_kids, outline_families, outline_known, names_stop, root_marks, root_length, link_is, outline_tree}
+use Rattle.cfb_directory.proofs.OutlineLaws.{outline_links, outline_families, outline_known, names_stop, root_marks, root_length, link_is, outline_tree}
 use Rattle.cfb_directory.proofs.outline.read_outline.Goals as goal
 
 pub index_families-requires-clause-inside : goal.index_families-requires-clause-inside

@@ -1,4 +1,4 @@
-use Rattle.std.proofs.Common.{◌≡◌, ℕ, ◌<◌, length, get_or, false, arith, sym, ◌∙◌}
+use Rattle.std.proofs.Common.{arith, sym, ◌∙◌}
 use Rattle.carrier_model.proofs.MarkLaws.{unmarked-set}
 use Rattle.cfb_directory.proofs.walk.visit_entry.Goals as goal
 

@@ -1,12 +1,12 @@
-use Rattle.std.proofs.Common.{◌≡◌, ℕ, ◌+◌, ◌<◌, ◌≤◌, ◌++◌, ◌∷◌, List, [], length, reverse, refl, sym, ◌∙◌, ap, arith, rules, subst}
-use Rattle.std.proofs.lemmas.Grind.{common_steps, elements}
+use Rattle.std.proofs.Common.{◌≡◌, ℕ, ◌<◌, ◌++◌, ◌∷◌, List, [], sym, ◌∙◌, ap, arith, rules, subst}
+use Rattle.std.proofs.lemmas.Grind.{common_steps}
 use Rattle.std.proofs.lemmas.Result.{err_from_is_err_and}
 use Rattle.std.proofs.Common.{Some}
 use Rattle.std.proofs.lemmas.List.{append_assoc, append-nil}
 use Rattle.std.proofs.lemmas.List.Elements.{All-cons, All-nil, All-pop, All-push}
 use Rattle.carrier_model.specs.Marks.{Marks}
 use Rattle.cfb_directory.specs.declared.links.Pending.TheVariants.{Visit, Place}
-use Rattle.cfb_directory.specs.Walks.{directory_of, pend, with_front, IsInside, IsSafe}
+use Rattle.cfb_directory.specs.Walks.{directory_of, IsInside, IsSafe}
 use Rattle.cfb_sectors.specs.Views.{entry as entry_seen}
 use Rattle.cfb_directory.proofs.WalkLaws.{walk_first, place_step, none_step, visit_step, stop_step, done_step, safe_put, none_left}
 use Rattle.cfb_directory.proofs.walk.walk_directory.Goals as goal

@@ -1,7 +1,6 @@
-use Rattle.std.proofs.Common.{◌≡◌, ℕ, ◌+◌, ◌*◌, ◌<◌, ◌≤◌, ◌++◌, ◌∷◌, List, [], length, reverse, vec_len}
+use Rattle.std.proofs.Common.{◌≡◌, ℕ, ◌+◌, ◌*◌, ◌<◌, ◌++◌, List, length, reverse, vec_len}
 use Rattle.std.specs.Prelude.{All}
 use Rattle.carrier_model.specs.Marks.{Marks, unmarked}
-use Rattle.cfb_directory.specs.declared.links.Pending.TheVariants.{Visit, Place}
 use Rattle.cfb_directory.specs.Walks.{directory_of, walk_of, pend, with_front, IsInside, IsSafe}
 use Rattle.cfb_directory.proofs.walk.walk_directory.Given as goal
 

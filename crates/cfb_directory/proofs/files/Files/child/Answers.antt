@@ -1,15 +1,10 @@
-use Rattle.std.proofs.Common.{◌≡◌, ◌<◌, ◌+◌, ◌≤◌, ℕ, List, length, get_or, map, true, false, cond, sym, ◌∙◌, ap, subst, arith, rules, refl, None, Some}
+use Rattle.std.proofs.Common.{◌≡◌, ◌<◌, length, get_or, sym, ◌∙◌, ap, arith}
 use Rattle.std.specs.Option.{option_map}
 use Rattle.std.specs.Prelude.{vec_len}
-use Rattle.std.proofs.lemmas.Bool.{cond-true, cond-false}
 use Rattle.std.proofs.lemmas.List.{get_or-map}
-use Rattle.carrier_model.specs.Links.{is_storage}
-use Rattle.carrier_model.specs.Lookups.{Found, size_place, storage_named, stream_named}
 use Rattle.cfb_directory.specs.Families.{family_at}
-use Rattle.cfb_directory.specs.Found.{storage_seen, child_seen}
-use Rattle.cfb_directory.specs.Nodes.{entry_in, place_in, stream_in}
-use Rattle.cfb_directory.specs.Shapes.{table_of, tree_at}
-use Rattle.cfb_directory.proofs.LookupLaws.{storage_at_name, stream_at_name, children_at, storage_pick, stream_pick, node_entry, node_place, node_stream, pick_seen, storage_kind, stream_kind, child_past, child_there, child_inside, same_child}
+use Rattle.cfb_directory.specs.Found.{storage_seen}
+use Rattle.cfb_directory.proofs.LookupLaws.{node_entry, pick_seen, child_past, child_there, child_inside, same_child}
 use Rattle.carrier_model.specs.Files.{name_of}
 use Rattle.cfb_directory.proofs.files.Files.child.Goals as goal
 

@@ -1,9 +1,9 @@
-use Rattle.std.proofs.Common.{◌≡◌, ◌<◌, ◌≤◌, ℕ, List, length, get_or, sym, ◌∙◌, ap, subst, arith, rules, None, Some}
+use Rattle.std.proofs.Common.{◌≡◌, ◌<◌, length, sym, ◌∙◌, subst, arith}
 use Rattle.std.specs.Prelude.{IfSome, vec_len}
 use Rattle.std.proofs.lemmas.List.{length-map}
 use Rattle.carrier_model.specs.Files.{folded}
-use Rattle.cfb_directory.specs.Families.{family_at, index_at}
-use Rattle.cfb_directory.specs.Named.{found, first_named}
+use Rattle.cfb_directory.specs.Families.{family_at}
+use Rattle.cfb_directory.specs.Named.{first_named}
 use Rattle.cfb_directory.specs.Shapes.{key_in}
 use Rattle.cfb_directory.proofs.LookupLaws.{too_long, first_inside, index_is}
 use Rattle.cfb_directory.proofs.files.Files.named.Goals as goal

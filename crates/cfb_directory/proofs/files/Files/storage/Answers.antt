@@ -1,12 +1,7 @@
-use Rattle.std.proofs.Common.{◌≡◌, ◌<◌, ◌+◌, ◌≤◌, ℕ, List, length, get_or, map, true, false, cond, sym, ◌∙◌, ap, subst, arith, rules, refl, None, Some}
+use Rattle.std.proofs.Common.{sym, ◌∙◌, ap, None, Some}
 use Rattle.std.specs.Option.{option_map}
-use Rattle.std.proofs.lemmas.Bool.{eq-eqb, ne_eqb, cond-true, cond-false}
-use Rattle.carrier_model.specs.Links.{is_storage}
-use Rattle.carrier_model.specs.Lookups.{Found, size_place, storage_named, stream_named}
-use Rattle.cfb_directory.specs.Found.{storage_seen, child_seen}
-use Rattle.cfb_directory.specs.Nodes.{entry_in, place_in, stream_in}
-use Rattle.cfb_directory.specs.Shapes.{table_of, tree_at}
-use Rattle.cfb_directory.proofs.LookupLaws.{storage_at_name, stream_at_name, children_at, storage_pick, stream_pick, node_entry, node_place, node_stream, pick_seen}
+use Rattle.cfb_directory.specs.Found.{storage_seen}
+use Rattle.cfb_directory.proofs.LookupLaws.{storage_at_name, pick_seen}
 use Rattle.cfb_directory.proofs.files.Files.storage.Goals as goal
 
 pub returns-in_err-entry-clause-found : goal.returns-in_err-entry-clause-found

@@ -1,5 +1,4 @@
-use Rattle.std.proofs.Common.{◌≡◌, ℕ, List, sym, ◌∙◌, ap, Some}
-use Rattle.carrier_model.specs.Files.{folded}
+use Rattle.std.proofs.Common.{sym, ◌∙◌, Some}
 use Rattle.cfb_directory.proofs.NameLaws.{updated}
 use Rattle.cfb_directory.proofs.names.NameIndex.insert.Goals as goal
 

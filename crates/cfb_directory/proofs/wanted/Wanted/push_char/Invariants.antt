@@ -1,4 +1,4 @@
-use Rattle.std.proofs.Common.{◌≡◌, ℕ, List, ◌++◌, take}
+use Rattle.std.proofs.Common.{ℕ, List, ◌++◌, take}
 use Rattle.carrier_model.specs.Files.{folded}
 use Rattle.cfb_directory.specs.Wanted.{Keeps}
 use Rattle.cfb_directory.proofs.wanted.Wanted.push_char.Given as goal
