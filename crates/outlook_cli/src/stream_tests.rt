@@ -18,8 +18,8 @@ const MESSAGE: [u8; 16] = [7, 3, 2, 0, 0, 0, 0, 0, 0xc0, 0, 0, 0, 0, 0, 0, 0x46]
 
 /// A property of the type Integer32, value 1, named 820D in a set; its id is 8000.
 const NAMED: [u8; 32] = [
-    3, 0, 0, 0x80, 2, 0x20, 6, 0, 0, 0, 0, 0, 0xc0, 0, 0, 0, 0, 0, 0, 0x46, 0, 0, 0, 0, 0x0d, 0x82,
-    0, 0, 1, 0, 0, 0,
+    3, 0, 0, 0x80, 2, 0x20, 6, 0, 0, 0, 0, 0, 0xc0, 0, 0, 0, 0, 0, 0, 0x46, 0, 0, 0, 0, 0x0d,
+    0x82, 0, 0, 1, 0, 0, 0,
 ];
 
 fn attribute(out: &mut Vec<u8>, level: u8, id: u32, value: &[u8]) -> Result<(), Fail> {
@@ -67,12 +67,8 @@ fn nested(rt: &HostRuntime, levels: u32) -> Result<Vec<u8>, Fail> {
     for _ in 0..levels {
         let size = u32::try_from(stream.len()).ok().ok_or("a length")?;
         let size = size.checked_add(16).ok_or("a size")?;
-        let padding: &[u8] = match size % 4 {
-            0 => &[],
-            1 => &[0, 0, 0],
-            2 => &[0, 0],
-            _ => &[0],
-        };
+        let zeros = [0u8; 3];
+        let padding = &zeros[..((4 - size % 4) % 4) as usize];
         stream = with_object(rt, size, &[&MESSAGE, &stream, padding])?;
     }
     Ok(stream)
@@ -134,9 +130,10 @@ fn other_streams_become_canonical(rt: HostRuntime) -> Result<(), Fail> {
 
 #[test]
 fn faults_in_lists_and_streams(rt: HostRuntime) -> Result<(), Fail> {
-    let mut kind_two = Vec::from_slice(rt.alloc(), &[1, 0, 0, 0])?;
-    kind_two.extend_from_slice(&NAMED)?;
-    kind_two[24] = 2;
+    let kind_two = [
+        1, 0, 0, 0, 3, 0, 0, 0x80, 2, 0x20, 6, 0, 0, 0, 0, 0, 0xc0, 0, 0, 0, 0, 0, 0, 0x46, 2, 0,
+        0, 0, 0x0d, 0x82, 0, 0, 1, 0, 0, 0,
+    ];
     let one = [1, 0, 0, 0, 3, 0, 0x17, 0, 2, 0, 0, 0];
     let mut twice = listed(&rt, &one)?;
     attribute(&mut twice, 1, 0x0006_9003, &one)?;
@@ -149,16 +146,8 @@ fn faults_in_lists_and_streams(rt: HostRuntime) -> Result<(), Fail> {
         (twice, Reason::DoubleAttribute, 63),
         (lone, Reason::NoAttachment, 40),
         (with_object(&rt, 15, &[&[0; 16]])?, Reason::BadSize, 101),
-        (
-            with_object(&rt, 16, &[&[0; 16]])?,
-            Reason::BadInterface,
-            105,
-        ),
-        (
-            with_object(&rt, 56, &[&MESSAGE, &wrong_sum])?,
-            Reason::BadSum,
-            159,
-        ),
+        (with_object(&rt, 16, &[&[0; 16]])?, Reason::BadInterface, 105),
+        (with_object(&rt, 56, &[&MESSAGE, &wrong_sum])?, Reason::BadSum, 159),
         (nested(&rt, 33)?, Reason::TooDeep, 3977),
     ];
     for (input, reason, offset) in &table {
