@@ -18,8 +18,8 @@ const MESSAGE: [u8; 16] = [7, 3, 2, 0, 0, 0, 0, 0, 0xc0, 0, 0, 0, 0, 0, 0, 0x46]
 
 /// A property of the type Integer32, value 1, named 820D in a set; its id is 8000.
 const NAMED: [u8; 32] = [
-    3, 0, 0, 0x80, 2, 0x20, 6, 0, 0, 0, 0, 0, 0xc0, 0, 0, 0, 0, 0, 0, 0x46, 0, 0, 0, 0, 0x0d,
-    0x82, 0, 0, 1, 0, 0, 0,
+    3, 0, 0, 0x80, 2, 0x20, 6, 0, 0, 0, 0, 0, 0xc0, 0, 0, 0, 0, 0, 0, 0x46, 0, 0, 0, 0, 0x0d, 0x82,
+    0, 0, 1, 0, 0, 0,
 ];
 
 fn attribute(out: &mut Vec<u8>, level: u8, id: u32, value: &[u8]) -> Result<(), Fail> {
@@ -146,8 +146,16 @@ fn faults_in_lists_and_streams(rt: HostRuntime) -> Result<(), Fail> {
         (twice, Reason::DoubleAttribute, 63),
         (lone, Reason::NoAttachment, 40),
         (with_object(&rt, 15, &[&[0; 16]])?, Reason::BadSize, 101),
-        (with_object(&rt, 16, &[&[0; 16]])?, Reason::BadInterface, 105),
-        (with_object(&rt, 56, &[&MESSAGE, &wrong_sum])?, Reason::BadSum, 159),
+        (
+            with_object(&rt, 16, &[&[0; 16]])?,
+            Reason::BadInterface,
+            105,
+        ),
+        (
+            with_object(&rt, 56, &[&MESSAGE, &wrong_sum])?,
+            Reason::BadSum,
+            159,
+        ),
         (nested(&rt, 33)?, Reason::TooDeep, 3977),
     ];
     for (input, reason, offset) in &table {
