@@ -43,7 +43,8 @@ module _ {A : Type 0} {R : A → A → Ordering} (o : IsTotalOrder R) where
     | inr d ↦ d.1
   ]
 
-  same_elements : (xs ys : List A) → IsStrictlySorted R xs → IsStrictlySorted R ys → ((z : A) → Contains xs z → Contains ys z) → ((z : A) → Contains ys z → Contains xs z) → ys ≡ xs
+  -- two strictly sorted lists are one where each has the other's elements
+  pub same_elements : (xs ys : List A) → IsStrictlySorted R xs → IsStrictlySorted R ys → ((z : A) → Contains xs z → Contains ys z) → ((z : A) → Contains ys z → Contains xs z) → ys ≡ xs
   same_elements [] [] g h f b = refl
   same_elements [] (y ∷ ys) g h f b = let c : Contains [] y = b y (in_head y ys) in absurd (omega (arith, c.1))
   same_elements (x ∷ xs) [] g h f b = let c : Contains [] x = f x (in_head x xs) in absurd (omega (arith, c.1))
