@@ -81,3 +81,21 @@ fn names_in_order(rt: HostRuntime) -> Result<(), Fail> {
     assert_eq!(rt; Key::Named(copy).order(&Key::Named(word)), Ordering::Equal);
     Ok(())
 }
+
+#[test]
+fn a_set_of_some_names(rt: HostRuntime) -> Result<(), Fail> {
+    let low = Name::Number {
+        set: APPOINTMENT,
+        number: 0x820d,
+    };
+    let high = Name::Number {
+        set: APPOINTMENT,
+        number: 0x820e,
+    };
+    let names = vec![in rt.alloc(); &high, &low, &high]?;
+    let set = NameSet::of(rt.alloc(), names).ok().ok_or("no memory")?;
+    assert_eq!(rt; set.len(), 2);
+    assert_eq!(rt; set.position(&low), Some(0));
+    assert_eq!(rt; set.position(&high), Some(1));
+    Ok(())
+}

@@ -1,6 +1,5 @@
 use Rattle.std.proofs.Common.{◌≡◌, ◌∙◌, ap, length, rules}
 use Rattle.uuid.specs.Text as printed
-use Rattle.uuid.specs.Parts.{swap_fields}
 use Rattle.carrier_model.specs.KeyTexts.{guid_text}
 use Rattle.prop_names.proofs.Texts.{braced}
 use Rattle.prop_names.proofs.key_texts.print_guid.Goals as goal

@@ -1,4 +1,4 @@
-use Rattle.std.proofs.Common.{[], ◌∷◌, ◌++◌}
+use Rattle.std.proofs.Common.{◌∷◌}
 use Rattle.carrier_model.specs.KeyTexts.{label_text}
 use Rattle.carrier_io.proofs.Known.{andthen, failing}
 use Rattle.prop_names.specs.Meaning.{name_of}
