@@ -1,7 +1,7 @@
 ghost use Rattle.std.specs.Prelude.{◌<◌, ◌^◌, length};
 
 use crate::compare::{same_prop, same_props};
-use crate::{Guids, InsertEnd, Kind, Parts, Prop, Props, Value, kind_of};
+use crate::{Arrivals, Guids, InsertEnd, Kind, Parts, Prop, Props, SettleEnd, Value, kind_of};
 use carrier_io::{Blob, same_bytes};
 use prop_names::{Guid, Key};
 use std::alloc::Global;
@@ -144,5 +144,27 @@ fn kinds(rt: HostRuntime) -> Result<(), Fail> {
     assert_eq!(rt; Kind::MultipleTime.name(), "MultipleTime");
     assert_eq!(rt; Kind::MultipleTime.width(), Some(8));
     assert_eq!(rt; Value::<Vec<u8>>::Guid(Guid([0; 16])).kind(), Kind::Guid);
+    Ok(())
+}
+
+#[test]
+fn arrivals_are_put_in_order(rt: HostRuntime) -> Result<(), Fail> {
+    let mut list = Arrivals::new(rt.alloc());
+    list.push(integer(0x0026, 1)).ok().ok_or("no memory")?;
+    list.push(integer(0x0017, 2)).ok().ok_or("no memory")?;
+    let props = list.settle().ok().ok_or("no memory")?;
+    assert_eq!(rt; props.len(), 2);
+    assert!(rt; same_prop(props.get(0), &integer(0x0017, 2)));
+    Ok(())
+}
+
+#[test]
+fn the_first_double_is_told(rt: HostRuntime) -> Result<(), Fail> {
+    let mut list = Arrivals::new(rt.alloc());
+    for id in [0x0017, 0x0026, 0x0017, 0x0026] {
+        list.push(integer(id, 0)).ok().ok_or("no memory")?;
+    }
+    let end = list.settle().err();
+    assert_eq!(rt; end, Some(SettleEnd::Duplicate(2)));
     Ok(())
 }
