@@ -1,2 +1,0 @@
-mod Flat
-pub mod Narrowing
