@@ -3,6 +3,7 @@ pub mod UnitLists
 pub mod NameForms
 pub mod ValueForms
 pub mod KindNumbers
+pub mod Doubles
 pub mod ListForms
 pub mod ReadForms
 pub mod Summed

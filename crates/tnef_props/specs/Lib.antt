@@ -5,3 +5,4 @@ pub mod Steps
 pub mod Summed
 pub mod Written
 pub mod Named
+pub mod Scans

@@ -1,13 +1,14 @@
 //! Property lists.
-ghost use Rattle.std.specs.Prelude.{◌≡◌, ◌+◌, ◌<◌, ◌≤◌, ◌++◌, ℕ, List, Bool, length, drop, IfOk, IfErr, OnOk, OnErr};
+ghost use Rattle.std.specs.Prelude.{◌≡◌, ◌+◌, ◌<◌, ◌≤◌, ◌∷◌, ◌++◌, ℕ, List, Bool, [], length, drop, filter_map, IfOk, IfErr, OnOk, OnErr};
 ghost use Rattle.std.specs.Option.{option_map};
 ghost use Rattle.carrier_model.specs.TnefLists as lists;
-ghost use Rattle.carrier_model.specs.Values as plain;
-ghost use Rattle.carrier_model.specs.Sorted.{with_element};
 ghost use Rattle.carrier_io.specs.Reads.{OnFault, FaultOnly};
+ghost use Rattle.carrier_io.specs.Reasons.{fault_of};
 ghost use Rattle.carrier_model.specs.Grammar.{Means};
-ghost use Rattle.tnef_props.specs.ReadLists.{Grows, IsListOf, is_attachment};
-ghost use Rattle.prop_values.specs.Ends.{HasPairOf};
+ghost use Rattle.carrier_model.specs.Reasons.{DUPLICATE_LIST_PROPERTY};
+ghost use Rattle.tnef_props.specs.ReadLists.{PassedAtFront, IsListOf, is_attachment};
+ghost use Rattle.tnef_props.specs.Scans.{IsEmpty, IsWith, IsSecondObject, IsCutShort, FirstDoubleFails, draft_seen};
+ghost use Rattle.prop_values.specs.Arrivals.{AreDifferent};
 ghost use Rattle.tnef_props.specs.Meaning.{item_of, object_of};
 ghost use Rattle.tnef_props.specs.Steps.{Takes, Refuses};
 
@@ -15,47 +16,53 @@ use crate::fields::word;
 use crate::items::{Item, any_item};
 use crate::object::{Object, ReadList};
 use crate::rest::Rest;
-use carrier_io::{Blob, Fault, Passed, PassedList, Reason, Stop};
-use prop_values::{InsertEnd, Part, Prop, Props};
+use carrier_io::{Fault, Passed, PassedList, Reason, Stop};
+use prop_values::{Arrivals, Part, Props, SettleEnd};
 use std::alloc::Global;
 
-/// Puts a property into its place; one that is there already is a fault at the offset.
-fn keep<B: Blob>(props: &mut Props<B>, prop: Prop<B>, offset: u64) -> Result<(), Stop>
-    ensures new { OnOk result (HasPairOf props.old prop → ⊥) }
-    ensures ok { OnOk result (props.new ≡ with_element plain.prop_cmp props.old prop) }
-    ensures fault { IfErr result (OnFault (λ g. (g ≡ (76, offset)) × HasPairOf props.old prop)) }
+/// What was read of a list, before it was looked at for doubles: the properties as they came, the offset of the tag of
+/// each, and the Object of an attachment.
+#[derive(Drop)]
+struct Draft<'a> {
+    arrivals: Arrivals<&'a [u8]>,
+    offsets: Vec<u64>,
+    object: Option<Object<'a>>,
+}
+
+/// The fault of a property or an Object that is there already.
+fn double_at(offset: u64) -> Fault
+    ensures { fault_of result ≡ (DUPLICATE_LIST_PROPERTY, offset) }
 {
-    match props.insert_sorted(prop) {
-        Ok(()) => Ok(()),
-        Err(InsertEnd::Duplicate(_)) => Err(Stop::Fault(Fault {
-            reason: Reason::DuplicateListProperty,
-            offset,
-        })),
-        Err(InsertEnd::NoMemory) => Err(Stop::NoMemory),
+    Fault {
+        reason: Reason::DuplicateListProperty,
+        offset,
     }
 }
 
-/// What a list has, as far as it was read.
-type Gathered<'a> = (Props<&'a [u8]>, Option<Object<'a>>, Rest<'a>);
+impl<'a> Draft<'a> {
+    fn new(alloc: Global) -> Draft<'a>
+        ensures { IsEmpty result }
+    {
+        Draft {
+            arrivals: Arrivals::new(alloc),
+            offsets: Vec::new(alloc),
+            object: None,
+        }
+    }
 
-/// A list. What is passed over is added to `passed`, after a refusal a part of it.
-fn gather<'a>(
-    alloc: Global,
-    from: Rest<'a>,
-    in_attachment: bool,
-    passed: &mut PassedList,
-) -> Result<Gathered<'a>, Stop>
-    ensures found { IfOk result (λ x. (more : List (Bool × ℕ × ℕ)) × Takes (lists.prop_list in_attachment) from.entry (record { props = x.0; object = option_map object_of x.1; passed = more }) x.2 × (passed.new ≡ passed.old ++ more)) }
-    ensures fault { IfErr result (Refuses (lists.prop_list in_attachment) from.entry) }
-    ensures kept { OnErr result (Grows passed.old passed.new) }
-{
-    let (count, mut rest) = word(from)?;
-    let mut props = Props::new(alloc);
-    let mut object = None;
-    for _k in 0..count {
-        let (item, after) = any_item(alloc, rest, in_attachment)?;
+    /// Adds the item whose tag is at the offset. A second Object is a fault there.
+    fn add(&mut self, item: Item<'a>, offset: u64, passed: &mut PassedList) -> Result<(), Stop>
+        ensures ok { OnOk result (IsWith (item_of item.entry) offset self.old self.new) }
+        ensures passed { OnOk result (passed.new ≡ passed.old ++ filter_map lists.passed_in (item_of item.entry ∷ [])) }
+        ensures fault { IfErr result (OnFault (λ g. (g ≡ (DUPLICATE_LIST_PROPERTY, offset)) × IsSecondObject (item_of item.entry) self.old)) }
+        ensures cut { OnErr result (IsCutShort self.old self.new) }
+        ensures kept { OnErr result (passed.new ≡ passed.old) }
+    {
         match item {
-            Item::Kept(prop) => keep(&mut props, prop, rest.place)?,
+            Item::Kept(prop) => {
+                self.offsets.push(offset)?;
+                self.arrivals.push(prop)?;
+            }
             Item::Passed { tag, offset } => {
                 passed.push(Passed {
                     attribute: false,
@@ -64,18 +71,66 @@ fn gather<'a>(
                 })?;
             }
             Item::Carried(found) => {
-                if object.is_some() {
-                    return Err(Stop::Fault(Fault {
-                        reason: Reason::DuplicateListProperty,
-                        offset: rest.place,
-                    }));
+                if self.object.is_some() {
+                    return Err(Stop::Fault(double_at(offset)));
                 }
-                object = Some(found);
+                self.object = Some(found);
             }
         }
+        Ok(())
+    }
+}
+
+/// Reads the items of a list into an empty draft. Properties that are there twice are left for later. What is passed
+/// over is added to `passed`, after a refusal a part of it.
+fn scan<'a>(
+    alloc: Global,
+    from: Rest<'a>,
+    in_attachment: bool,
+    draft: &mut Draft<'a>,
+    passed: &mut PassedList,
+) -> Result<Rest<'a>, Stop>
+    requires { IsEmpty draft.old }
+    ensures found { IfOk result (λ rest. (more : List (Bool × ℕ × ℕ)) × (AreDifferent draft.new.arrivals → Takes (lists.prop_list in_attachment) from.entry (draft_seen draft.new more) rest) × (passed.new ≡ passed.old ++ more)) }
+    ensures fault { IfErr result (λ stop. AreDifferent draft.new.arrivals → Refuses (lists.prop_list in_attachment) from.entry stop) }
+    ensures double { FirstDoubleFails in_attachment from.entry draft.new.arrivals draft.new.offsets.items }
+    ensures kept { PassedAtFront in_attachment from.entry.place from.entry.bytes.now passed.old passed.new }
+{
+    let (count, mut rest) = word(from)?;
+    for _k in 0..count {
+        let (item, after) = any_item(alloc, rest, in_attachment)?;
+        draft.add(item, rest.place, passed)?;
         rest = after;
     }
-    Ok((props, object, rest))
+    Ok(rest)
+}
+
+/// What a list has, as far as it was read.
+type Gathered<'a> = (Props<&'a [u8]>, Option<Object<'a>>, Rest<'a>);
+
+/// A list. The first property that is there twice comes before whatever stopped the scan behind it.
+fn gather<'a>(
+    alloc: Global,
+    from: Rest<'a>,
+    in_attachment: bool,
+    passed: &mut PassedList,
+) -> Result<Gathered<'a>, Stop>
+    ensures found { IfOk result (λ x. (more : List (Bool × ℕ × ℕ)) × Takes (lists.prop_list in_attachment) from.entry (record { props = x.0; object = option_map object_of x.1; passed = more }) x.2 × (passed.new ≡ passed.old ++ more)) }
+    ensures fault { IfErr result (Refuses (lists.prop_list in_attachment) from.entry) }
+    ensures kept { OnErr result (PassedAtFront in_attachment from.entry.place from.entry.bytes.now passed.old passed.new) }
+{
+    let mut draft = Draft::new(alloc);
+    let scanned = scan(alloc, from, in_attachment, &mut draft, passed);
+    let Draft {
+        arrivals,
+        offsets,
+        object,
+    } = draft;
+    match arrivals.settle() {
+        Ok(props) => Ok((props, object, scanned?)),
+        Err(SettleEnd::Duplicate(k)) => Err(Stop::Fault(double_at(offsets[k]))),
+        Err(SettleEnd::NoMemory) => Err(Stop::NoMemory),
+    }
 }
 
 fn is_of_attachment(part: Part) -> bool
@@ -88,8 +143,8 @@ fn is_of_attachment(part: Part) -> bool
 }
 
 /// Reads the list at the place `from` of the bytes, whose first byte is at the offset `at` of the input. A fault is
-/// the first of the list, by its offset in the input. What is passed over is added to `passed`, after a refusal a
-/// part of it, and nothing that was there is lost. [MS-OXTNEF 2.1.3.4]
+/// the first of the list, by its offset in the input. What is passed over is added to `passed`; after a refusal that
+/// is what the items read so far pass over, and nothing that was there is lost. [MS-OXTNEF 2.1.3.4]
 pub fn read_list<'a>(
     alloc: Global,
     bytes: &'a [u8],
@@ -102,7 +157,7 @@ pub fn read_list<'a>(
     requires room { at + length bytes.now ≤ 0x1000_0000 }
     ensures found { IfOk result (IsListOf (is_attachment part) bytes.entry.now from at passed.old passed.new) }
     ensures fault { IfErr result (OnFault (FaultOnly (Means (lists.prop_list (is_attachment part)) (at + from) (drop from bytes.entry.now)) ((lists.prop_list (is_attachment part)).fails (at + from) (drop from bytes.entry.now)))) }
-    ensures kept { OnErr result (Grows passed.old passed.new) }
+    ensures kept { OnErr result (PassedAtFront (is_attachment part) (at + from) (drop from bytes.entry.now) passed.old passed.new) }
 {
     let (_, list) = bytes.split_at(from);
     let start = Rest {

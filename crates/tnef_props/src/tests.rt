@@ -52,6 +52,8 @@ fn faults_of_lists(rt: HostRuntime) -> Result<(), Fail> {
     let double = [
         2, 0, 0, 0, 3, 0, 0x17, 0, 1, 0, 0, 0, 3, 0, 0x17, 0, 2, 0, 0, 0,
     ];
+    let mut double_first = double;
+    double_first[0] = 3;
     let mut object = [0u8; 32];
     object[0] = 1;
     object[4..8].copy_from_slice(&[0x0d, 0, 1, 0x37]);
@@ -60,6 +62,7 @@ fn faults_of_lists(rt: HostRuntime) -> Result<(), Fail> {
     let table = [
         (&other_kind[..], Reason::BadNameKind, 73),
         (&double[..], Reason::DuplicateListProperty, 61),
+        (&double_first[..], Reason::DuplicateListProperty, 61),
         (&object[..], Reason::BadSize, 61),
         (&TWO_TEXTS[..27], Reason::ListTruncated, 75),
     ];
