@@ -1,11 +1,8 @@
 -- Steps of reading put together.
-use Rattle.std.proofs.Common.{◌≡◌, ◌⊎◌, inl, inr, ℕ, suc, ◌+◌, ◌≤◌, Bool, true, false, List, [], ◌∷◌, ◌++◌, length, refl, sym, ap, subst, ◌∙◌, arith}
-use Rattle.carrier_io.specs.Reads.{OnFault}
-use Rattle.carrier_io.specs.Reasons.{fault_of}
+use Rattle.std.proofs.Common.{◌≡◌, inl, ℕ, Bool, true, false, sym, subst}
 use Rattle.carrier_io.specs.declared.reasons.Stop.{Stop}
-use Rattle.carrier_io.specs.declared.reasons.Stop.TheVariants as stops
 use Rattle.carrier_io.proofs.Sides.{on_fault}
-use Rattle.carrier_model.specs.Grammar.{Form, gives, and_then, such, placed, choice, Spans}
+use Rattle.carrier_model.specs.Grammar.{Form, gives, and_then, such, placed, choice}
 use Rattle.carrier_model.proofs.Reading.{continues_then, spans_seen, spans_such, fails_such, spans_placed}
 use Rattle.tnef_props.specs.declared.rest.Rest.{Rest}
 use Rattle.tnef_props.specs.Steps.{Takes, Refuses}

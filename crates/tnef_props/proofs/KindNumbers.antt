@@ -1,7 +1,7 @@
 -- The kinds that a tag may name.
-use Rattle.std.proofs.Common.{◌≡◌, ◌⊎◌, inl, inr, ℕ, ◌+◌, ◌-◌, ◌≤◌, ◌<◌, Bool, true, false, List, [], ◌∷◌, ◌++◌, Option, Some, None, refl, sym, ap, ◌∙◌, arith}
-use Rattle.std.specs.Prelude.{nat_eq, nat_le, nat_lt, unwrap_or, cond, ◌&&◌, ◌||◌, ◌*◌, ◌/◌, ◌%◌}
-use Rattle.std.proofs.lemmas.Bool.{ne_eqb, eqb-true, leb-true}
+use Rattle.std.proofs.Common.{◌≡◌, ℕ, ◌-◌, ◌≤◌, Bool, true, false, List, [], ◌∷◌, ◌++◌, None, refl, sym, arith}
+use Rattle.std.specs.Prelude.{nat_le, ◌&&◌}
+use Rattle.std.proofs.lemmas.Bool.{ne_eqb, leb-true}
 use Rattle.carrier_model.specs.Values.{width_among, width_of, number_widths, numbers_widths, guid_widths, is_bytes_kind}
 use Rattle.carrier_model.specs.TnefLists.{is_kind}
 use Rattle.prop_values.specs.Kinds.{kind_number}

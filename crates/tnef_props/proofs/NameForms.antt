@@ -1,5 +1,5 @@
 -- A name, put together.
-use Rattle.std.proofs.Common.{◌≡◌, ℕ, List}
+use Rattle.std.proofs.Common.{ℕ, List}
 use Rattle.std.specs.Prelude.{nat_eq, nat_le}
 use Rattle.carrier_io.specs.declared.reasons.Stop.{Stop}
 use Rattle.carrier_model.specs.Grammar.{Form, and_then, such, choice}

@@ -1,5 +1,5 @@
 -- Parts of a list.
-use Rattle.std.proofs.Common.{◌≡◌, ℕ, zero, suc, ◌+◌, ◌-◌, ◌<◌, ◌≤◌, List, [], ◌∷◌, ◌++◌, Bool, true, false, Some, length, take, drop, get_or, not, refl, sym, ap, subst, ◌∙◌, arith}
+use Rattle.std.proofs.Common.{◌≡◌, ℕ, zero, suc, ◌+◌, ◌-◌, ◌<◌, List, [], ◌∷◌, Bool, true, false, Some, take, drop, not, refl, ap, ◌∙◌, arith}
 use Rattle.std.specs.Prelude.{slice_get, filter, nat_lt}
 use Rattle.std.specs.Ordering.{nat_cmp, ordering_then}
 use Rattle.std.specs.declared.cmp.Ordering.{Ordering}
@@ -8,7 +8,6 @@ use Rattle.std.proofs.lemmas.Cmp.{ranked}
 use Rattle.std.proofs.lemmas.Bool.{lt-ltb}
 use Rattle.std.proofs.lemmas.Bool.Decides.{nat_tests}
 use Rattle.std.proofs.Math.Seq.{take-nil, drop-nil}
-use Rattle.std.proofs.lemmas.Option.{slice_get_within}
 use Rattle.carrier_model.specs.Keys.{id, key_cmp}
 use Rattle.carrier_model.specs.Places.{IsCut}
 use Rattle.carrier_model.specs.Sorted.{choose}

@@ -1,5 +1,5 @@
 -- Calls that append and add up, one after the other.
-use Rattle.std.proofs.Common.{◌≡◌, ℕ, zero, suc, ◌+◌, ◌%◌, ◌<◌, ◌++◌, List, [], ◌∷◌, take, drop, length, get_or, Option, Result, Ok, Err, inl, inr, refl, sym, ap, subst, ◌∙◌, append_assoc, add-one, arith}
+use Rattle.std.proofs.Common.{◌≡◌, ℕ, zero, suc, ◌+◌, ◌%◌, ◌<◌, ◌++◌, List, [], ◌∷◌, take, drop, get_or, Option, Result, Ok, Err, inl, inr, refl, sym, ap, subst, ◌∙◌, append_assoc, add-one, arith}
 use Rattle.std.specs.Prelude.{slice_get, Some, sum, fold}
 use Rattle.std.specs.Result.{IsErr}
 use Rattle.std.specs.List.{flat_map}
@@ -10,9 +10,9 @@ use Rattle.std.proofs.lemmas.List.Sums.{fold-append}
 use Rattle.std.proofs.lemmas.Option.{slice_get_within, get_or_from_slice_get}
 use Rattle.carrier_io.specs.Known.{Writes}
 use Rattle.carrier_io.specs.Pieces.{joined}
-use Rattle.carrier_io.proofs.Known.{did, did_nothing, done, andthen, failing, exits, flat_map-at, Appends-nothing}
+use Rattle.carrier_io.proofs.Known.{did, did_nothing, done, andthen, failing, flat_map-at}
 use Rattle.carrier_model.specs.Bytes.{sum16}
-use Rattle.tnef_props.specs.Summed.{Sums, ended}
+use Rattle.tnef_props.specs.Summed.{Sums}
 
 fold_from : (a : ℕ) (xs : List ℕ) → fold ◌+◌ a xs ≡ a + fold ◌+◌ 0 xs
 fold_from a [] = omega arith

@@ -1,24 +1,24 @@
 -- Values, put together by their shapes.
-use Rattle.std.proofs.Common.{◌≡◌, ◌⊎◌, ℕ, zero, suc, ◌+◌, ◌-◌, ◌*◌, ◌<◌, ◌≤◌, ◌^◌, Bool, true, false, List, [], ◌∷◌, ◌++◌, length, map, refl, sym, ap, subst, ◌∙◌, arith}
+use Rattle.std.proofs.Common.{◌≡◌, ◌⊎◌, ℕ, zero, suc, ◌+◌, ◌-◌, ◌<◌, ◌≤◌, Bool, true, false, List, [], ◌∷◌, ◌++◌, length, map, refl, sym, ap, subst, ◌∙◌, arith}
 use Rattle.std.specs.Prelude.{nat_eq, All}
 use Rattle.carrier_io.specs.declared.reasons.Stop.{Stop}
 use Rattle.carrier_io.proofs.Sides.{on_fault}
 use Rattle.std.proofs.lemmas.List.{length-append}
-use Rattle.carrier_model.specs.Grammar.{Form, and_then, such, choice, gives, repeat, Spans}
+use Rattle.carrier_model.specs.Grammar.{Form, and_then, choice, gives, repeat}
 use Rattle.carrier_model.specs.Values as plain
 use Rattle.carrier_model.specs.Values.{width_in, number_widths, numbers_widths, is_bytes_kind}
-use Rattle.std.specs.Prelude.{nat_le, take, drop, cond, ◌&&◌, ◌%◌, IsTrue}
+use Rattle.std.specs.Prelude.{nat_le, take, drop, cond, ◌&&◌, ◌%◌}
 use Rattle.std.proofs.lemmas.List.{append-nil, length-take}
 use Rattle.std.proofs.lemmas.List.Elements.{All-push}
 use Rattle.std.proofs.lemmas.Bool.{eqb-true, eq-eqb, and_parts, leb-true}
 use Rattle.std.proofs.Common.{inl, inr}
 use Rattle.carrier_model.specs.Values.{IsBytes}
 use Rattle.carrier_model.specs.TnefLists.{size, sized, is_size, without_null, null_of, numbers_of}
-use Rattle.carrier_model.specs.TnefLists.{raw, word, one, padded, text, many, value, bits_of, le_number, is_number_kind, is_numbers_kind, pad4}
-use Rattle.carrier_model.proofs.Reading.{Continues, continues_then, continues_on, continues_repeat, fails_repeat, spans_repeat, spans_less}
+use Rattle.carrier_model.specs.TnefLists.{word, one, padded, text, many, value, bits_of, le_number, is_number_kind, is_numbers_kind}
+use Rattle.carrier_model.proofs.Reading.{Continues, continues_then, continues_on, continues_repeat, fails_repeat, spans_repeat}
 use Rattle.tnef_props.specs.declared.rest.Rest.{Rest}
 use Rattle.tnef_props.specs.Steps.{Takes, Refuses}
-use Rattle.tnef_props.proofs.Forms.{then_takes, then_first, then_next, seen_takes, left_takes, right_takes, left_refuses, right_refuses}
+use Rattle.tnef_props.proofs.Forms.{then_first, seen_takes}
 
 -- so many bytes are taken
 pub padded_len : (n : ℕ) (a b : Rest) (x : List ℕ) → Takes (padded n) a x b → (length x ≡ n) × (length b.bytes.now + n ≤ length a.bytes.now)

@@ -1,14 +1,14 @@
 -- The parts of a value as it is written.
-use Rattle.std.proofs.Common.{◌≡◌, ℕ, zero, suc, ◌+◌, ◌-◌, ◌*◌, ◌%◌, ◌/◌, ◌^◌, ◌<◌, ◌≤◌, ◌++◌, List, [], ◌∷◌, Bool, true, false, Some, None, length, get_or, inl, inr, refl, sym, ap, subst, ◌∙◌, append_assoc, length-append, arith}
-use Rattle.std.specs.Prelude.{replicate, slice_get, All, Option, ◌==◌, if◌then◌else◌}
+use Rattle.std.proofs.Common.{◌≡◌, ℕ, suc, ◌+◌, ◌*◌, ◌%◌, ◌/◌, ◌^◌, ◌<◌, ◌++◌, List, [], ◌∷◌, Bool, true, false, Some, length, get_or, inl, inr, refl, sym, ap, subst, ◌∙◌, append_assoc, length-append, arith}
+use Rattle.std.specs.Prelude.{replicate, slice_get, All, ◌==◌, if◌then◌else◌}
 use Rattle.std.specs.List.{flat_map}
 use Rattle.std.proofs.lemmas.List.{length-replicate, replicate-append-replicate}
 use Rattle.std.proofs.lemmas.Option.{slice_get_within, get_or_from_slice_get}
 use Rattle.carrier_model.specs.Bytes.{le32}
 use Rattle.carrier_model.specs.TnefCanonical.{zero_padded, le_bytes, value_bytes}
-use Rattle.carrier_model.specs.TnefLists.{pad4, null_of}
-use Rattle.carrier_model.specs.Values.{Value, number, guid, bytes, numbers, guids, parts, IsValue, IsBytes, is_bytes_kind, width_in, numbers_widths}
-use Rattle.tnef_props.specs.Written.{HasWidth, Fits, number_field, text_field, counted, count_field, content_field}
+use Rattle.carrier_model.specs.TnefLists.{pad4}
+use Rattle.carrier_model.specs.Values.{Value, number, guid, bytes, numbers, guids, parts, IsValue, IsBytes}
+use Rattle.tnef_props.specs.Written.{HasWidth, Fits, number_field, counted, count_field, content_field}
 
 pub all_at : {X : Type 0} (P : X → Type 0) (xs : List X) (k : ℕ) (x : X) → All P xs → slice_get xs k ≡ Some x → P x
 all_at P xs k x h at = subst P (get_or_from_slice_get xs k x x at) (h k x (slice_get_within xs k x at))

@@ -1,5 +1,4 @@
 -- A step of reading: a form was taken from the bytes that are left, or they begin with none.
-use Rattle.std.specs.Prelude.{ℕ}
 use Rattle.carrier_io.specs.Reads.{OnFault}
 use Rattle.carrier_io.specs.declared.reasons.Stop.{Stop}
 use Rattle.carrier_model.specs.Grammar.{Form, Spans}

@@ -1,5 +1,5 @@
 -- The parts of a value as it is written.
-use Rattle.std.specs.Prelude.{◌≡◌, ◌⊎◌, ℕ, ◌+◌, ◌-◌, ◌<◌, ◌^◌, ◌++◌, Bool, true, false, List, [], length, replicate, Option, Some, None}
+use Rattle.std.specs.Prelude.{◌≡◌, ◌⊎◌, ℕ, ◌-◌, ◌<◌, ◌^◌, ◌++◌, Bool, true, false, List, [], length, replicate, Option, Some, None}
 use Rattle.std.specs.Int.{w64, to_le_bytes}
 use Rattle.std.specs.List.{flat_map}
 use Rattle.carrier_model.specs.Bytes.{le32}

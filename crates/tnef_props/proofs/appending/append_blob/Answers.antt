@@ -1,4 +1,4 @@
-use Rattle.tnef_props.proofs.Summed.{pieces_stop, pieces_more}
+use Rattle.tnef_props.proofs.Summed.{pieces_stop}
 use Rattle.tnef_props.proofs.appending.append_blob.Goals as goal
 
 pub returns-in_err-sum : goal.returns-in_err-sum

@@ -1,4 +1,4 @@
-use Rattle.std.proofs.Common.{ap, List, ℕ, subst, take, replicate}
+use Rattle.std.proofs.Common.{ℕ}
 use Rattle.std.proofs.lemmas.List.{take-replicate}
 use Rattle.tnef_props.proofs.appending.append_zeros.Goals as goal
 

@@ -1,4 +1,4 @@
-use Rattle.std.proofs.Common.{◌≡◌, ◌/◌, ◌%◌, ℕ, List, true, false}
+use Rattle.std.proofs.Common.{◌≡◌, ◌/◌, ◌%◌, ℕ, true}
 use Rattle.std.proofs.Common.{subst}
 use Rattle.std.specs.Prelude.{nat_eq}
 use Rattle.std.proofs.lemmas.Result.{IfOk-weaker}
@@ -6,7 +6,6 @@ use Rattle.carrier_model.specs.Grammar.{and_then, gives}
 use Rattle.carrier_model.specs.Keys.{Key}
 use Rattle.carrier_model.specs.TnefLists.{described, key, object, property, kept}
 use Rattle.prop_names.specs.Meaning.{key_of}
-use Rattle.prop_values.specs.Kinds.{kind_number}
 use Rattle.tnef_props.specs.Meaning.{item_of}
 use Rattle.tnef_props.specs.Steps.{Takes}
 use Rattle.tnef_props.proofs.Forms.{then_takes, seen_takes, left_takes, right_takes}

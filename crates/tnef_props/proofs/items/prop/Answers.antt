@@ -1,4 +1,3 @@
-use Rattle.std.proofs.Common.{◌≡◌, ℕ, List}
 use Rattle.carrier_model.specs.Grammar.{and_then, gives}
 use Rattle.carrier_model.specs.Keys.{Key}
 use Rattle.carrier_model.specs.Values.{Value, Prop}

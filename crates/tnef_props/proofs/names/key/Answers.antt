@@ -1,7 +1,6 @@
-use Rattle.std.proofs.Common.{◌≡◌, ◌≤◌, ℕ, false, arith}
 use Rattle.std.specs.Prelude.{nat_lt}
 use Rattle.std.proofs.lemmas.Bool.{le-ltb}
-use Rattle.carrier_model.specs.Keys.{Name, Key, id, named}
+use Rattle.carrier_model.specs.Keys.{Name, id, named}
 use Rattle.carrier_model.specs.Grammar.{and_then, gives}
 use Rattle.carrier_model.specs.TnefLists.{name, key}
 use Rattle.prop_names.specs.Meaning.{name_of}

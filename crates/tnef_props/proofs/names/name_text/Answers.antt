@@ -1,4 +1,4 @@
-use Rattle.std.proofs.Common.{◌≡◌, ◌≤◌, ℕ, List, length, true, arith}
+use Rattle.std.proofs.Common.{◌≡◌, ℕ, List, length, true, arith}
 use Rattle.std.specs.Prelude.{nat_le}
 use Rattle.std.proofs.lemmas.Bool.{le-leb}
 use Rattle.carrier_model.specs.Keys.{texted}

@@ -1,4 +1,4 @@
-use Rattle.std.proofs.Common.{◌≡◌, ap, length, sym, ◌∙◌, take, arith, length-take}
+use Rattle.std.proofs.Common.{ap, length, arith, length-take}
 use Rattle.tnef_props.proofs.PartsOfLists.{object_parts}
 use Rattle.tnef_props.proofs.object_places.object_place.Goals as goal
 

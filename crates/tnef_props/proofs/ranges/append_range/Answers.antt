@@ -1,4 +1,4 @@
-use Rattle.std.proofs.Common.{◌≡◌, refl, arith}
+use Rattle.std.proofs.Common.{refl, arith}
 use Rattle.carrier_model.specs.TnefCanonical.{prop_bytes}
 use Rattle.carrier_model.specs.Values.{Prop}
 use Rattle.tnef_props.specs.Named.{between, HasKey}

@@ -1,4 +1,4 @@
-use Rattle.std.proofs.Common.{◌≡◌, ℕ, List, length, take, ap, arith, take_all, length-append}
+use Rattle.std.proofs.Common.{length, take, ap, arith, take_all, length-append}
 use Rattle.carrier_model.specs.TnefCanonical.{props_bytes, prop_bytes}
 use Rattle.tnef_props.proofs.Lengths.{list_length}
 use Rattle.tnef_props.proofs.Summed.{flat_map_more}

@@ -1,4 +1,4 @@
-use Rattle.std.proofs.Common.{◌≡◌, ◌+◌, ℕ, List, length, sym, arith}
+use Rattle.std.proofs.Common.{◌+◌, arith}
 use Rattle.tnef_props.proofs.Lengths.{text_length}
 use Rattle.tnef_props.proofs.sizes.text_size.Goals as goal
 

@@ -1,4 +1,4 @@
-use Rattle.std.proofs.Common.{◌≡◌, ◌<◌, ℕ, List, length, sym, subst, arith}
+use Rattle.std.proofs.Common.{◌≡◌, ◌<◌, ℕ, List, length, sym, arith}
 use Rattle.carrier_model.specs.Totals.{capped}
 use Rattle.tnef_props.specs.Written.{text_field}
 use Rattle.tnef_props.proofs.Lengths.{flat_map_longer}

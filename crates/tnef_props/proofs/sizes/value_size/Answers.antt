@@ -1,5 +1,4 @@
-use Rattle.std.proofs.Common.{◌≡◌, ℕ, List, length, ◌+◌, ◌*◌, ◌-◌, sym, ap, subst, arith, ◌∙◌}
-use Rattle.std.specs.List.{flat_map}
+use Rattle.std.proofs.Common.{ℕ, List, sym, subst, arith}
 use Rattle.carrier_model.specs.Values.{IsValue}
 use Rattle.prop_values.specs.Meaning.{value_of}
 use Rattle.tnef_props.proofs.Lengths.{each_length}

@@ -1,6 +1,4 @@
-use Rattle.std.proofs.Common.{◌≡◌, ◌*◌, ◌<◌, ◌^◌, ℕ, List, length, All}
-use Rattle.prop_values.specs.Kinds.{kind_number}
-use Rattle.carrier_model.specs.Values.{IsBytes}
+use Rattle.std.proofs.Common.{◌≡◌, ℕ, List, length, All}
 use Rattle.carrier_model.specs.TnefLists.{padded}
 use Rattle.tnef_props.proofs.ValueForms.{Turns}
 use Rattle.tnef_props.proofs.values.guids_from.Given as goal

@@ -1,12 +1,11 @@
-use Rattle.std.proofs.Common.{◌≡◌, ℕ, List, sym, subst, ap}
+use Rattle.std.proofs.Common.{ℕ, List, sym, subst}
 use Rattle.std.proofs.lemmas.Result.{err_from_is_err_and}
 use Rattle.prop_values.specs.Kinds.{kind_number}
-use Rattle.carrier_model.specs.Grammar.{and_then, gives}
 use Rattle.carrier_model.specs.Values as plain
-use Rattle.carrier_model.specs.TnefLists.{one, value, padded, text, many, numbers_of, bits_of}
+use Rattle.carrier_model.specs.TnefLists.{value, padded, bits_of}
 use Rattle.tnef_props.specs.Steps.{Takes}
-use Rattle.tnef_props.proofs.Forms.{view_takes, view_refuses, same_takes, same_refuses, then_takes, then_first, then_next, seen_takes}
-use Rattle.tnef_props.proofs.ValueForms.{value_number, value_guid, value_bytes, value_numbers, value_guids, value_parts, text_valid}
+use Rattle.tnef_props.proofs.Forms.{view_takes, view_refuses}
+use Rattle.tnef_props.proofs.ValueForms.{value_number}
 use Rattle.tnef_props.proofs.values.number_value.Goals as goal
 
 pub returns-in_err-bytes-clause-fault : goal.returns-in_err-bytes-clause-fault

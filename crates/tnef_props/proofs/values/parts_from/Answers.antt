@@ -1,9 +1,9 @@
-use Rattle.std.proofs.Common.{◌≡◌, ℕ, List, [], ◌∷◌, ◌++◌, length, ◌*◌, ◌<◌, ◌^◌, refl, sym, ap, subst, ◌∙◌, arith}
+use Rattle.std.proofs.Common.{ℕ, List, arith}
 use Rattle.std.proofs.lemmas.Result.{err_from_is_err_and}
 use Rattle.prop_values.specs.Kinds.{kind_number}
 use Rattle.carrier_model.specs.Values.{IsBytes}
-use Rattle.carrier_model.specs.TnefLists.{padded, text, le_number}
-use Rattle.tnef_props.proofs.ValueForms.{padded_len, text_valid, turns_begin, turns_more, turns_fault, turns_items, turns_numbers, numbers_refuse, all_push}
+use Rattle.carrier_model.specs.TnefLists.{text}
+use Rattle.tnef_props.proofs.ValueForms.{text_valid, turns_begin, turns_more, turns_fault, turns_items, all_push}
 use Rattle.tnef_props.proofs.values.parts_from.Goals as goal
 
 pub loop-k-init : goal.loop-k-init

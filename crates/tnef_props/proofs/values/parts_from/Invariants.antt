@@ -1,4 +1,4 @@
-use Rattle.std.proofs.Common.{◌≡◌, ◌*◌, ◌<◌, ◌^◌, ℕ, List, length, All}
+use Rattle.std.proofs.Common.{ℕ, List, All}
 use Rattle.prop_values.specs.Kinds.{kind_number}
 use Rattle.carrier_model.specs.Values.{IsBytes}
 use Rattle.carrier_model.specs.TnefLists.{text}

@@ -1,12 +1,9 @@
-use Rattle.std.proofs.Common.{◌≡◌, ℕ, ◌+◌, ◌++◌, [], ◌∷◌, List, Some, length, refl, sym, ap, ◌∙◌, arith}
+use Rattle.std.proofs.Common.{◌++◌, length, refl, arith}
 use Rattle.std.specs.Prelude.{replicate}
-use Rattle.carrier_model.specs.Bytes.{le16, le32}
-use Rattle.carrier_model.specs.TnefCanonical.{zero_padded, unit_bytes, name_bytes}
+use Rattle.carrier_model.specs.TnefCanonical.{unit_bytes}
 use Rattle.carrier_model.specs.TnefLists.{pad4}
-use Rattle.prop_names.specs.Meaning.{name_of}
-use Rattle.tnef_props.specs.Named.{label_field}
-use Rattle.tnef_props.proofs.Summed.{sums_both, sums_first, sums_second, loop_more, loop_stops}
-use Rattle.tnef_props.proofs.WrittenKeys.{units_padded, units_open, units_size, name_parts}
+use Rattle.tnef_props.proofs.Summed.{sums_both, sums_first, sums_second}
+use Rattle.tnef_props.proofs.WrittenKeys.{units_padded, units_open}
 use Rattle.tnef_props.proofs.writing_keys.append_padded_units.Goals as goal
 
 pub returns-in_err-text : goal.returns-in_err-text

@@ -1,4 +1,3 @@
-use Rattle.std.proofs.Common.{◌+◌, ap}
 use Rattle.tnef_props.proofs.WrittenKeys.{id_is}
 use Rattle.tnef_props.proofs.writing_keys.id_of.Goals as goal
 

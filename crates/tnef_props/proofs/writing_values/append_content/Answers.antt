@@ -1,4 +1,4 @@
-use Rattle.std.proofs.Common.{List, ℕ, subst}
+use Rattle.std.proofs.Common.{subst}
 use Rattle.carrier_model.specs.Values.{IsValue}
 use Rattle.prop_values.specs.Meaning.{value_of}
 use Rattle.tnef_props.proofs.WrittenValues.{numbers_parts}

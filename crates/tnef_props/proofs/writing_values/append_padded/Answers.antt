@@ -1,14 +1,8 @@
-use Rattle.std.proofs.Common.{◌≡◌, ℕ, ◌+◌, ◌++◌, List, Some, length, refl, sym, ap, ◌∙◌, arith}
+use Rattle.std.proofs.Common.{ℕ, ◌++◌, length, refl, arith}
 use Rattle.std.specs.Prelude.{replicate}
-use Rattle.std.specs.List.{flat_map}
-use Rattle.carrier_model.specs.Bytes.{le32}
 use Rattle.carrier_model.specs.TnefLists.{pad4}
-use Rattle.carrier_model.specs.TnefCanonical.{zero_padded}
-use Rattle.prop_values.specs.Kinds.{kind_number}
-use Rattle.prop_values.specs.Meaning.{value_of}
-use Rattle.tnef_props.specs.Written.{Fits, number_field, text_field, content_field, counted}
-use Rattle.tnef_props.proofs.Summed.{sums_both, sums_first, sums_second, loop_more, loop_stops}
-use Rattle.tnef_props.proofs.WrittenValues.{padded_open, all_at, padded_parts, text_size, fits_width, number_parts, numbers_parts, numbers_fit, bytes_short, parts_short, count_below, value_parts}
+use Rattle.tnef_props.proofs.Summed.{sums_both, sums_first, sums_second}
+use Rattle.tnef_props.proofs.WrittenValues.{padded_open, padded_parts}
 use Rattle.tnef_props.proofs.writing_values.append_padded.Goals as goal
 
 pub returns-in_err-bytes : goal.returns-in_err-bytes
