@@ -92,7 +92,10 @@ fn a_set_of_some_names(rt: HostRuntime) -> Result<(), Fail> {
         set: APPOINTMENT,
         number: 0x820e,
     };
-    let names = vec![in rt.alloc(); &high, &low, &high]?;
+    let again = high.copy(rt.alloc()).ok().ok_or("no memory")?;
+    let first = high.copy(rt.alloc()).ok().ok_or("no memory")?;
+    let second = low.copy(rt.alloc()).ok().ok_or("no memory")?;
+    let names = vec![in rt.alloc(); first, second, again]?;
     let set = NameSet::of(rt.alloc(), names).ok().ok_or("no memory")?;
     assert_eq!(rt; set.len(), 2);
     assert_eq!(rt; set.position(&low), Some(0));

@@ -15,7 +15,7 @@ loop-name-preserved c =
     let long : length items ≡ length (map name_of items) = sym (length-map items name_of) in
     elim c.if-not-ends_with.branch [
       | then-not-ends_with+in_ok-copy+in_ok-push w ↦
-          let differs : slice_get (map name_of items) (length items - 1) ≡ Some (name_of c.name-item.result.now) → ⊥ = λ e. let h : false ≡ true = w.if-not-ends_with.ensures.1 (rw c.deref.ensures.value e) in cc in
-          rw (w.list-is, w.in_ok-push.ensures.items, map_push, w.in_ok-copy.ensures) (kept_now name_total (λ name. name_of name.now) c.args.sorted.now c.loop-name.name-index c.name-item.result at name_exact c.requires (map name_of items) (length items) long c.loop-name.invariant differs)
-      | else-not-ends_with w ↦ rw w.list-is (kept_before name_total (λ name. name_of name.now) c.args.sorted.now c.loop-name.name-index c.name-item.result at (map name_of items) (length items) long c.loop-name.invariant (rw c.deref.ensures.value at (w.if-not-ends_with.ensures.0 refl)))
+          let differs : slice_get (map name_of items) (length items - 1) ≡ Some (name_of c.name-item.result) → ⊥ = λ e. let h : false ≡ true = w.if-not-ends_with.ensures.1 (rw c.deref.ensures.value e) in cc in
+          rw (w.list-is, w.in_ok-push.ensures.items, map_push, w.in_ok-copy.ensures) (kept_now name_total name_of c.args.sorted.now c.loop-name.name-index c.name-item.result at name_exact c.requires (map name_of items) (length items) long c.loop-name.invariant differs)
+      | else-not-ends_with w ↦ rw w.list-is (kept_before name_total name_of c.args.sorted.now c.loop-name.name-index c.name-item.result at (map name_of items) (length items) long c.loop-name.invariant (rw c.deref.ensures.value at (w.if-not-ends_with.ensures.0 refl)))
     ]
