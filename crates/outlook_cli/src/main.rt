@@ -9,23 +9,9 @@ mod words;
 
 use carrier_io::{StdSink, StdSource};
 use run::run;
-use std::alloc::{AllocError, Global};
 use std::process::ExitCode;
 use std::{env, io};
-
-/// The words behind the program's name.
-fn words_of(alloc: Global, args: env::Args) -> Result<Vec<String>, AllocError> {
-    let mut words = Vec::new(alloc);
-    let mut is_name = true;
-    for word in args {
-        if is_name {
-            is_name = false;
-        } else {
-            words.push(word)?;
-        }
-    }
-    Ok(words)
-}
+use words::words_of;
 
 fn main(rt: HostRuntime) -> ExitCode {
     let args = match env::args(&rt) {

@@ -1,6 +1,10 @@
-ghost use Rattle.std.specs.Prelude.{◌≡◌, ◌↔◌, IsSome};
+ghost use Rattle.std.specs.Prelude.{◌≡◌, ◌↔◌, IsSome, IfOk, drop};
+ghost use Rattle.std.specs.Vec.Iter.{into_iter_items};
 ghost use Rattle.carrier_model.specs.Jobs.{IsJob};
 ghost use Rattle.outlook_cli.specs.Words.{texts};
+
+use std::alloc::{AllocError, Global};
+use std::env;
 
 /// A translation.
 #[derive(Clone, Copy, Debug, PartialEq, Eq)]
@@ -22,4 +26,17 @@ pub fn job_of(words: &[String]) -> Option<Command>
         return Some(Command::Translate(Job::ToTnef));
     }
     None
+}
+
+/// The words behind the program's name, which is the first argument.
+pub fn words_of(alloc: Global, args: env::Args) -> Result<Vec<String>, AllocError>
+    ensures { IfOk result (λ words. words.items ≡ drop 1 (into_iter_items args)) }
+{
+    let mut words = Vec::new(alloc);
+    let mut rest = args;
+    let _name = rest.next();
+    for word in rest {
+        words.push(word)?;
+    }
+    Ok(words)
 }
