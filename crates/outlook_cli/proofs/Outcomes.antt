@@ -1,14 +1,13 @@
 -- The three answers that there are for a job.
-use Rattle.std.proofs.Common.{◌≡◌, ℕ, ◌<◌, ◌≤◌, List, [], ◌∷◌, ◌++◌, length, Option, Some, None, refl, sym, ap, ◌∙◌, arith}
-use Rattle.std.specs.Prelude.{IfSome, nat_lt}
-use Rattle.std.specs.Option.{option_map}
+use Rattle.std.proofs.Common.{◌≡◌, ℕ, ◌<◌, ◌≤◌, List, [], length, Option, Some, None, refl, sym, ap, ◌∙◌}
+use Rattle.std.specs.Prelude.{IfSome}
 use Rattle.carrier_model.specs.Bytes.{AllBytes}
 use Rattle.carrier_model.specs.Limits as limits
 use Rattle.carrier_model.specs.Limits.{first_limit, tnef_limits, too_large}
 use Rattle.carrier_model.specs.Targets.{MOST_BYTES, passed_size}
 use Rattle.carrier_model.specs.TnefCanonical.{tnef_of}
 use Rattle.carrier_model.specs.Jobs.{Accepts, FaultOf}
-use Rattle.carrier_model.specs.TnefMessage.{Meaning, TnefCarrier, GREATEST_LEVEL}
+use Rattle.carrier_model.specs.TnefMessage.{Meaning, GREATEST_LEVEL}
 use Rattle.carrier_model.specs.Totals.{capped}
 use Rattle.carrier_model.specs.Tree.{Message}
 use Rattle.carrier_model.proofs.CanonicalTnef.{tree_within}

@@ -1,5 +1,5 @@
 -- Exit codes, and the line of the report.
-use Rattle.std.specs.Prelude.{◌≡◌, ◌⊎◌, ℕ, List, [], ◌∷◌, ◌++◌, Option, codes, decimal}
+use Rattle.std.specs.Prelude.{◌⊎◌, ℕ, List, [], ◌∷◌, ◌++◌, Option, codes, decimal}
 use Rattle.std.specs.Io.KnownBytes.{Appends}
 use Rattle.carrier_io.specs.Causes.{Rose}
 use Rattle.carrier_io.specs.Known.{AppendsFront}

@@ -1,7 +1,7 @@
-use Rattle.std.proofs.Common.{ℕ, List, ◌++◌, [], ◌∷◌}
-use Rattle.std.specs.Prelude.{codes, decimal}
+use Rattle.std.proofs.Common.{◌++◌, [], ◌∷◌}
+use Rattle.std.specs.Prelude.{decimal}
 use Rattle.carrier_io.proofs.Known.{andthen, failing}
-use Rattle.outlook_cli.specs.Report.{limit_name, counted_in}
+use Rattle.outlook_cli.specs.Report.{counted_in}
 use Rattle.outlook_cli.proofs.report.write_limit.Goals as goal
 
 pub returns-in_err-write_parts : goal.returns-in_err-write_parts

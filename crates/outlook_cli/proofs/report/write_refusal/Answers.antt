@@ -1,4 +1,4 @@
-use Rattle.std.proofs.Common.{ℕ, List, ◌++◌, [], ◌∷◌, ap, ◌∙◌}
+use Rattle.std.proofs.Common.{◌++◌, [], ◌∷◌}
 use Rattle.std.specs.Prelude.{codes, decimal}
 use Rattle.carrier_io.specs.Reasons.{number_of, name_of}
 use Rattle.carrier_io.proofs.Known.{andthen, failing}
