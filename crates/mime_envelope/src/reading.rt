@@ -1,6 +1,6 @@
 //! Reading an envelope.
-ghost use Rattle.std.specs.Prelude.{◌≡◌, ℕ, ◌+◌, ◌<◌, ◌≤◌, ◌^◌, List, length, not, filter, IfOk, IsTrue, None};
-ghost use Rattle.std.specs.List.{prefix_len};
+ghost use Rattle.std.specs.Prelude.{◌≡◌, ℕ, ◌+◌, ◌<◌, ◌≤◌, ◌^◌, ◌||◌, List, length, not, filter, IfOk};
+ghost use Rattle.std.specs.List.{prefix_len, list_all};
 ghost use Rattle.carrier_io.specs.Reads.{Gives, Reads};
 ghost use Rattle.carrier_io.specs.Reasons.{refusal};
 ghost use Rattle.carrier_model.specs.Envelope as envelope;
@@ -84,7 +84,7 @@ fn is_character(byte: u8) -> bool
 
 /// Whether all bytes of a body are base64 characters or skipped. It looks at each, so that many are looked at together.
 fn is_text(body: &[u8]) -> bool
-    ensures { IsTrue result → (at : ℕ) → envelope.bad_character at body.now ≡ None }
+    ensures { result ≡ list_all (λ c. envelope.is_skipped c || envelope.is_character c) body.now }
 {
     let mut good = true;
     for byte in body {

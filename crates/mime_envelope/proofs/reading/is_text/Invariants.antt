@@ -1,7 +1,7 @@
-use Rattle.std.proofs.Common.{◌≡◌, ℕ, ◌+◌, drop}
-use Rattle.std.specs.Prelude.{IsTrue}
+use Rattle.std.proofs.Common.{◌≡◌, ◌||◌, take}
+use Rattle.std.specs.List.{list_all}
 use Rattle.carrier_model.specs.Envelope as envelope
 use Rattle.mime_envelope.proofs.reading.is_text.Given as goal
 
 abbrev pub invariant-loop-byte : goal.invariant-loop-byte
-invariant-loop-byte l = IsTrue l.good → (at : ℕ) → envelope.bad_character at l.body ≡ envelope.bad_character (at + l.byte-index) (drop l.byte-index l.body)
+invariant-loop-byte l = l.good ≡ list_all (λ c. envelope.is_skipped c || envelope.is_character c) (take l.byte-index l.body)
