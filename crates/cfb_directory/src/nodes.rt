@@ -30,6 +30,7 @@ pub fn claim_streams<'a>(
     ensures answer { (long short : List ℕ) → Marks sectors.old.marks long → Marks sectors.old.mini_marks short → AreClaimed sectors.old (is_wanted visited.now (directory_of sectors.old)) walk.old walk.new result (claims_in sectors.old (filter (is_wanted visited.now (directory_of sectors.old)) (range_with_len 0 (entries sectors.old))) long short) }
     ensures count { IfOk result (λ v. vec_len v ≡ entries sectors.old) }
     ensures bounded { walk.new + unmarked sectors.new.marks + unmarked sectors.new.mini_marks ≤ walk.old + unmarked sectors.old.marks + unmarked sectors.old.mini_marks }
+    ensures grows { walk.old ≤ walk.new }
 {
     let mut nodes = Vec::new(alloc);
     for id in 0..sectors.entries() {

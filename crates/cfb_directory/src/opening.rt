@@ -21,6 +21,7 @@ pub fn open_files<'a>(alloc: Global, bytes: &'a [u8], walk: &mut Walk) -> Result
     ensures answer { Gives files result (open_of 512 bytes.now) }
     ensures both { Reads files result (Holds 512 bytes.now) (λ g. open_of 512 bytes.now ≡ Err g) }
     ensures bounded { walk.new ≤ walk.old + sector_count 512 bytes.now + mini_limit (load_of 512 bytes.now) }
+    ensures grows { walk.old ≤ walk.new }
     ensures steps { (o : Opened) → opened_of 512 bytes.now ≡ Ok o → walk.old < 2 ^ 63 → IfOk result (λ _. walk.new ≡ walk.old + steps_of o) }
 {
     let mut sectors = Sectors::load(alloc, bytes, walk)?;

@@ -54,6 +54,7 @@ pub fn take_chain(
     ensures steps { IfOk result (λ v. walk.new ≡ stepped walk.old (vec_len v)) }
     ensures length { length marks.new ≡ length marks.old }
     ensures bounded { walk.new + unmarked marks.new ≤ walk.old + unmarked marks.old }
+    ensures grows { walk.old ≤ walk.new }
 {
     let Followed { chain, stop } = follow(
         alloc,

@@ -35,6 +35,7 @@ pub fn view_long<'a>(
     ensures steps { (earlier chain : List ℕ) → Marks marks.old earlier → long_chain_of fat.now.size bytes.now (table fat.now) wish.start wish.size wish.entry earlier ≡ Ok chain → IfOk result (λ _. walk.new ≡ stepped walk.old (length chain)) }
     ensures length { length marks.new ≡ length marks.old }
     ensures bounded { walk.new + unmarked marks.new ≤ walk.old + unmarked marks.old }
+    ensures grows { walk.old ≤ walk.new }
 {
     let taken = take_long_chain(alloc, bytes, fat, wish, marks, walk)?;
     Ok(StreamView::new(bytes, taken.starts, fat.size, wish.size))
@@ -61,6 +62,7 @@ pub fn view_short<'a>(
     ensures steps { (earlier chain : List ℕ) → Marks marks.old earlier → short_chain_of from.now.fat.size (mini_seen from.now) wish.start wish.size wish.entry earlier ≡ Ok chain → IfOk result (λ _. walk.new ≡ stepped walk.old (length chain)) }
     ensures length { length marks.new ≡ length marks.old }
     ensures bounded { walk.new + unmarked marks.new ≤ walk.old + unmarked marks.old }
+    ensures grows { walk.old ≤ walk.new }
 {
     let taken = take_short_chain(alloc, from, wish, marks, walk)?;
     let starts = mini_starts(alloc, from.fat.size, &from.stream, &taken.starts)?;

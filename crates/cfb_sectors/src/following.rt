@@ -36,6 +36,7 @@ pub fn follow(
     ensures few { IfOk result (λ f. vec_len f.chain + unmarked marks.new ≡ unmarked marks.old) }
     ensures length { length marks.new ≡ length marks.old }
     ensures bounded { walk.new + unmarked marks.new ≤ walk.old + unmarked marks.old }
+    ensures grows { walk.old ≤ walk.new }
 {
     let mut chain = Vec::new(alloc);
     let mut sector = start;

@@ -53,6 +53,7 @@ pub fn load_tables(alloc: Global, bytes: &[u8], walk: &mut Walk) -> Result<Table
     ensures steps { IfOk result (λ t. walk.new ≡ stepped walk.old (vec_len t.directory)) }
     ensures left { IfOk result (λ t. walk.new + unmarked t.marks ≤ walk.old + sector_count 512 bytes.now) }
     ensures bounded { walk.new ≤ walk.old + sector_count 512 bytes.now }
+    ensures grows { walk.old ≤ walk.new }
 {
     let header = read_header(bytes)?;
     let mut marks = no_marks(alloc, (bytes.len() - 1) / SECTOR)?;

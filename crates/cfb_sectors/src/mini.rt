@@ -36,6 +36,7 @@ fn take_mini_fat(
     ensures steps { IfOk result (λ f. walk.new ≡ stepped walk.old (vec_len f.sectors)) }
     ensures length { length marks.new ≡ length marks.old }
     ensures bounded { walk.new + unmarked marks.new ≤ walk.old + unmarked marks.old }
+    ensures grows { walk.old ≤ walk.new }
 {
     let size = fat.size as usize;
     let start = Start {
@@ -81,6 +82,7 @@ pub fn load_mini(
     ensures steps { IfOk result (λ m. walk.new ≡ stepped walk.old (vec_len m.fat.sectors + vec_len m.stream)) }
     ensures length { length marks.new ≡ length marks.old }
     ensures bounded { walk.new + unmarked marks.new ≤ walk.old + unmarked marks.old }
+    ensures grows { walk.old ≤ walk.new }
 {
     if wish.size == 0 {
         return Ok(Mini {

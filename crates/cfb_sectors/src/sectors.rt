@@ -62,6 +62,7 @@ impl<'a> Sectors<'a> {
         ensures left { IfOk result (λ s. walk.new + unmarked s.marks ≤ walk.old + sector_count 512 bytes.now) }
         ensures left_mini { IfOk result (λ s. unmarked s.mini_marks ≡ mini_bound s.loaded.mini) }
         ensures bounded { walk.new ≤ walk.old + sector_count 512 bytes.now }
+        ensures grows { walk.old ≤ walk.new }
     {
         let Tables {
             header,
@@ -148,6 +149,7 @@ impl<'a> Sectors<'a> {
         ensures steps { (long short chain : List ℕ) → Marks self.old.marks long → Marks self.old.mini_marks short → chain_claimed self.old id long short ≡ Ok chain → IfOk result (λ _. walk.new ≡ stepped walk.old (length chain)) }
         ensures same { self.new ≡ record self.old { marks = self.new.marks; mini_marks = self.new.mini_marks } }
         ensures bounded { walk.new + unmarked self.new.marks + unmarked self.new.mini_marks ≤ walk.old + unmarked self.old.marks + unmarked self.old.mini_marks }
+        ensures grows { walk.old ≤ walk.new }
     {
         let place = entry_place(self.bytes, self.fat.size, &self.directory, id);
         let entry = read_entry(self.bytes, place);

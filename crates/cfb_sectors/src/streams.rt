@@ -129,6 +129,7 @@ pub fn take_long_chain(
     ensures steps { IfOk result (λ c. walk.new ≡ stepped walk.old (vec_len c.chain)) }
     ensures length { length marks.new ≡ length marks.old }
     ensures bounded { walk.new + unmarked marks.new ≤ walk.old + unmarked marks.old }
+    ensures grows { walk.old ≤ walk.new }
 {
     let bound = marks.len().min(fat.words.len()) as u32;
     let start = Start {
@@ -169,6 +170,7 @@ pub fn take_short_chain(
     ensures steps { IfOk result (λ c. walk.new ≡ stepped walk.old (vec_len c.chain)) }
     ensures length { length marks.new ≡ length marks.old }
     ensures bounded { walk.new + unmarked marks.new ≤ walk.old + unmarked marks.old }
+    ensures grows { walk.old ≤ walk.new }
 {
     let bound = marks.len() as u32;
     let start = Start {

@@ -13,6 +13,7 @@ loop-id-init c = record {
   same = refl;
   count = c.new-nodes.ensures.len;
   bounded = omega arith;
+  grows = omega arith;
   so_far = λ long short h k. rw c.new-nodes.ensures.items (progress_init c.args.sectors.now (is_wanted c.args.visited.now (directory_of c.args.sectors.now)) c.args.walk.now long short h k);
 }
 
@@ -39,6 +40,7 @@ loop-id-preserved c =
             same = same-again s c.loop-id.sectors w.claim.new.self c.loop-id.invariant.same w.in_ok-stream.ensures.same;
             count = search rules;
             bounded = omega arith;
+            grows = omega arith;
             so_far = λ long short h k. rw w.in_ok-push.ensures.items (claim_step s c.loop-id.sectors _ _ i c.loop-id.nodes.items _ _ _ _ _ _ c.loop-id.invariant.same (c.loop-id.invariant.so_far long short h k) inside last (wanted ∙ w.if-is_visited_stream.true) c.entry-entry.ensures c.entry_offset-place.ensures.place w.in_ok-stream.ensures.answer w.in_ok-stream.ensures.marked w.in_ok-stream.ensures.steps);
           })
       | else-is_visited_stream+in_ok-push-2 w ↦
@@ -46,6 +48,7 @@ loop-id-preserved c =
             same = c.loop-id.invariant.same;
             count = search rules;
             bounded = c.loop-id.invariant.bounded;
+            grows = c.loop-id.invariant.grows;
             so_far = λ long short h k. rw w.in_ok-push-2.ensures.items (skip_step s c.loop-id.sectors _ _ i c.loop-id.nodes.items _ _ _ c.loop-id.invariant.same (c.loop-id.invariant.so_far long short h k) inside last (wanted ∙ w.if-is_visited_stream.false) c.entry-entry.ensures c.entry_offset-place.ensures.place);
           })
     ]

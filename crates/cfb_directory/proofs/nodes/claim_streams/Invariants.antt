@@ -12,5 +12,6 @@ invariant-loop-id l = record {
   same : l.sectors ≡ record l.initial.sectors { marks = l.sectors.marks; mini_marks = l.sectors.mini_marks };
   count : vec_len l.nodes ≡ l.id;
   bounded : l.walk + unmarked l.sectors.marks + unmarked l.sectors.mini_marks ≤ l.initial.walk + unmarked l.initial.sectors.marks + unmarked l.initial.sectors.mini_marks;
+  grows : l.initial.walk ≤ l.walk;
   so_far : (long short : List ℕ) → Marks l.initial.sectors.marks long → Marks l.initial.sectors.mini_marks short → Progress l.initial.sectors (is_wanted l.visited (directory_of l.initial.sectors)) l.initial.walk l.id l.nodes.items l.sectors.marks l.sectors.mini_marks l.walk (claims_in l.initial.sectors (filter (is_wanted l.visited (directory_of l.initial.sectors)) (range_with_len 0 (entries l.initial.sectors))) long short);
 }

@@ -19,6 +19,7 @@ loop-sector-init c =
       same_length = refl;
       few = grind (arith, common_steps);
       bounded = omega arith;
+      grows = omega arith;
     }
 
 pub loop-sector-smaller : goal.loop-sector-smaller
@@ -43,4 +44,5 @@ loop-sector-preserved c =
       same_length = rw (c.mark.ensures, length-set) c.loop-sector.invariant.same_length;
       few = rw c.mark.ensures (grind (arith, common_steps));
       bounded = rw c.mark.ensures (omega arith);
+      grows = omega arith;
     }

@@ -16,6 +16,7 @@ invariant-loop-sector l = record {
   same_length : length l.marks ≡ length l.initial.marks;
   few : vec_len l.chain + unmarked l.marks ≡ unmarked l.initial.marks;
   bounded : l.walk + unmarked l.marks ≤ l.initial.walk + unmarked l.initial.marks;
+  grows : l.initial.walk ≤ l.walk;
 }
 
 abbrev pub decreases-loop-sector : goal.decreases-loop-sector
