@@ -1,7 +1,7 @@
 -- The reasons as numbers and names, and a fault as the pair of its number and its offset.
 use Rattle.std.specs.Prelude.{ℕ, List, codes, Option, Some, None, Result, Ok, Err}
 use Rattle.carrier_io.specs.declared.reasons.Reason.{Reason}
-use Rattle.carrier_io.specs.declared.reasons.Reason.TheVariants.{NotACarrier, NotBuilt, InputTooLong, TooDeep, OleStorage, BadFileSignature, BadVersion, BadHeader, BadFatCount, SectorOutOfRange, Cycle, Shared, ShortChain, FileTruncated, BadEntryType, BadName, EntryShared, EntryOutOfRange, DoubleName, StorageTooDeep, BadGuidIndex, BadNameOffset, BadNameLength, DoubleId, BadPropertyIndex, BadPropStream, UnknownType, UnmappedId, MissingStream, BadElement, DuplicateProperty, MissingProperties, MissingStorage, BadSignature, BadLevel, Truncated, BadSum, ListTruncated, UnknownListType, BadNameKind, BadNameSize, BadCount, BadSize, DuplicateListProperty, NoAttachment, DoubleAttribute, BadInterface, NoTnefPart, NotBase64, BadBase64, BadPadding, BadBoundary, BadHeaderLine, PartTooDeep, MissingClose}
+use Rattle.carrier_io.specs.declared.reasons.Reason.TheVariants.{NotACarrier, NotBuilt, InputTooLong, TooDeep, BadFileSignature, BadVersion, BadHeader, BadFatCount, SectorOutOfRange, Cycle, Shared, ShortChain, FileTruncated, BadEntryType, BadName, EntryShared, EntryOutOfRange, DoubleName, StorageTooDeep, BadGuidIndex, BadNameOffset, BadNameLength, DoubleId, BadPropertyIndex, BadPropStream, UnknownType, UnmappedId, MissingStream, BadElement, DuplicateProperty, MissingProperties, MissingStorage, StoreTooDeep, StoreIsMessage, BadSignature, BadLevel, Truncated, BadSum, ListTruncated, UnknownListType, BadNameKind, BadNameSize, BadCount, BadSize, DuplicateListProperty, NoAttachment, DoubleAttribute, BadInterface, NoTnefPart, NotBase64, BadBase64, BadPadding, BadBoundary, BadHeaderLine, PartTooDeep, MissingClose}
 use Rattle.carrier_io.specs.declared.reasons.Fault.{Fault}
 
 abbrev pub number_of : Reason → ℕ
@@ -9,7 +9,6 @@ number_of NotACarrier = 1
 number_of NotBuilt = 2
 number_of InputTooLong = 3
 number_of TooDeep = 4
-number_of OleStorage = 5
 number_of BadFileSignature = 10
 number_of BadVersion = 11
 number_of BadHeader = 12
@@ -38,6 +37,8 @@ number_of BadElement = 47
 number_of DuplicateProperty = 48
 number_of MissingProperties = 53
 number_of MissingStorage = 54
+number_of StoreTooDeep = 55
+number_of StoreIsMessage = 56
 number_of BadSignature = 60
 number_of BadLevel = 61
 number_of Truncated = 62
@@ -66,7 +67,6 @@ name_of NotACarrier = codes "NotACarrier"
 name_of NotBuilt = codes "NotBuilt"
 name_of InputTooLong = codes "InputTooLong"
 name_of TooDeep = codes "TooDeep"
-name_of OleStorage = codes "OleStorage"
 name_of BadFileSignature = codes "BadFileSignature"
 name_of BadVersion = codes "BadVersion"
 name_of BadHeader = codes "BadHeader"
@@ -95,6 +95,8 @@ name_of BadElement = codes "BadElement"
 name_of DuplicateProperty = codes "DuplicateProperty"
 name_of MissingProperties = codes "MissingProperties"
 name_of MissingStorage = codes "MissingStorage"
+name_of StoreTooDeep = codes "StoreTooDeep"
+name_of StoreIsMessage = codes "StoreIsMessage"
 name_of BadSignature = codes "BadSignature"
 name_of BadLevel = codes "BadLevel"
 name_of Truncated = codes "Truncated"

@@ -17,8 +17,6 @@ pub enum Reason {
     InputTooLong,
     /// A message of level 33; at the property that embeds it.
     TooDeep,
-    /// An attachment's object is an OLE storage; at the property that holds it.
-    OleStorage,
     /// A compound file without its signature; at 0.
     BadFileSignature,
     /// A major version other than 3; at 26.
@@ -75,6 +73,10 @@ pub enum Reason {
     MissingProperties,
     /// An embedded message without its storage; at the property entry.
     MissingStorage,
+    /// A storage 33 levels below its store; at the type in its directory entry.
+    StoreTooDeep,
+    /// A store with the property stream of a message; at the size in the directory entry of that stream.
+    StoreIsMessage,
     /// A TNEF stream without its signature; at the stream's first byte.
     BadSignature,
     /// An attribute of a level other than 1 and 2; at the level byte.
@@ -131,7 +133,6 @@ impl Reason {
             Reason::NotBuilt => 2,
             Reason::InputTooLong => 3,
             Reason::TooDeep => 4,
-            Reason::OleStorage => 5,
             Reason::BadFileSignature => 10,
             Reason::BadVersion => 11,
             Reason::BadHeader => 12,
@@ -160,6 +161,8 @@ impl Reason {
             Reason::DuplicateProperty => 48,
             Reason::MissingProperties => 53,
             Reason::MissingStorage => 54,
+            Reason::StoreTooDeep => 55,
+            Reason::StoreIsMessage => 56,
             Reason::BadSignature => 60,
             Reason::BadLevel => 61,
             Reason::Truncated => 62,
@@ -194,7 +197,6 @@ impl Reason {
             Reason::NotBuilt => "NotBuilt",
             Reason::InputTooLong => "InputTooLong",
             Reason::TooDeep => "TooDeep",
-            Reason::OleStorage => "OleStorage",
             Reason::BadFileSignature => "BadFileSignature",
             Reason::BadVersion => "BadVersion",
             Reason::BadHeader => "BadHeader",
@@ -223,6 +225,8 @@ impl Reason {
             Reason::DuplicateProperty => "DuplicateProperty",
             Reason::MissingProperties => "MissingProperties",
             Reason::MissingStorage => "MissingStorage",
+            Reason::StoreTooDeep => "StoreTooDeep",
+            Reason::StoreIsMessage => "StoreIsMessage",
             Reason::BadSignature => "BadSignature",
             Reason::BadLevel => "BadLevel",
             Reason::Truncated => "Truncated",

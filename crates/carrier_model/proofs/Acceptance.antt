@@ -1,11 +1,11 @@
 -- Bytes are accepted as one message, or refused for one fault, for each job that takes them as they are.
 use Rattle.std.proofs.Common.{◌≡◌, inl, inr, ℕ, ◌≤◌, true, false, List, length, sym, ◌∙◌, refl, arith}
 use Rattle.std.specs.Prelude.{Bool}
-use Rattle.carrier_model.specs.Acceptance.{SECTOR, MessageBy, FaultBy, JobAccepts, JobFault, TakesFor, FaultFor}
-use Rattle.carrier_model.specs.Commands.{Job, to_msg, to_tnef, wrap}
+use Rattle.carrier_model.specs.Acceptance.{MessageBy, FaultBy, JobAccepts, JobFault, TakesFor, FaultFor}
+use Rattle.carrier_model.specs.Commands.{Job, to_msg, to_msg4, to_tnef, wrap}
 use Rattle.carrier_model.specs.Jobs.{is_signed, is_compound}
 use Rattle.carrier_model.specs.Reasons.{NOT_A_CARRIER}
-use Rattle.carrier_model.specs.Targets.{MOST_BYTES}
+use Rattle.carrier_model.specs.Bytes.{MOST_BYTES}
 use Rattle.carrier_model.specs.TnefMessage.{Meaning, TnefCarrier, TnefFault, message_within}
 use Rattle.carrier_model.specs.Trail.{Fault, IsExact}
 use Rattle.carrier_model.specs.Attributes.{head_tests}
@@ -31,7 +31,7 @@ none_exact b unsigned = record {
 }
 
 by_front : (compound sign : Bool) (b : List ℕ) → sign ≡ is_signed b → length b ≤ MOST_BYTES → IsExact (λ (m : Meaning). MessageBy compound b m.message m.passed) (FaultBy compound sign b)
-by_front true sign b is few = carriers_exact SECTOR b refl few
+by_front true sign b is few = carriers_exact b few
 by_front false true b is few = tnef_exact b
 by_front false false b is few = none_exact b (sym is)
 
@@ -55,6 +55,9 @@ within job b exact = record {
 
 pub to_msg_exact : (b : List ℕ) → IsExact (λ (m : Meaning). JobAccepts to_msg b m.message m.passed) (JobFault to_msg b)
 to_msg_exact b = within to_msg b (by_front (is_compound b) (is_signed b) b refl)
+
+pub to_msg4_exact : (b : List ℕ) → IsExact (λ (m : Meaning). JobAccepts to_msg4 b m.message m.passed) (JobFault to_msg4 b)
+to_msg4_exact b = within to_msg4 b (by_front (is_compound b) (is_signed b) b refl)
 
 pub to_tnef_exact : (b : List ℕ) → IsExact (λ (m : Meaning). JobAccepts to_tnef b m.message m.passed) (JobFault to_tnef b)
 to_tnef_exact b = within to_tnef b (by_front (is_compound b) (is_signed b) b refl)

@@ -7,7 +7,7 @@ use Rattle.std.proofs.lemmas.List.{append-nil, length-append, reverse-append}
 use Rattle.std.proofs.lemmas.List.Folds.{list_any-append}
 use Rattle.std.proofs.lemmas.Bool.{eqb-true, ltb-false}
 use Rattle.std.proofs.lemmas.Bool.Decides.{nat_tests}
-use Rattle.carrier_model.specs.Bytes.{le16, le32, sum16}
+use Rattle.carrier_model.specs.Bytes.{le16, le32, sum16, MOST_BYTES}
 use Rattle.carrier_model.specs.Trail.{Fault, first_fault}
 use Rattle.carrier_model.specs.Items.{AllGood}
 use Rattle.carrier_model.specs.Attributes.{Attr, attr, is_level, spelling, attrs, SIGNATURE, Attrs}
@@ -15,16 +15,20 @@ use Rattle.carrier_model.specs.Grammar.{gives, and_then, Whole, inside}
 use Rattle.carrier_model.specs.Keys.{Name, Key, id, named, key_cmp, is_id}
 use Rattle.carrier_model.specs.Values.{Value, Prop, kind_of, prop_cmp}
 use Rattle.carrier_model.specs.Sorted.{choose, with_elements}
-use Rattle.carrier_model.specs.Tree.{Message, message, Attachments, no_more, attached, Body, nothing, embedded, attachments_from, listed, depth, depth_in, depth_of_body, names_of}
+use Rattle.carrier_model.specs.Tree.{Message, message, Attachments, no_more, attached, Body, nothing, embedded, stored, attachments_from, listed, depth, depth_in, depth_of_body, names_of}
+use Rattle.carrier_model.specs.FileTrees.{Store}
 use Rattle.carrier_model.specs.Trees.{IsPropList, HasPropLists, HavePropLists, BodyHasPropLists, IsTree}
 use Rattle.carrier_model.specs.LegacyAttributes.{VERSION, CODE_PAGE, MESSAGE_PROPS, RECIPIENTS, RENDERING, ATTACHMENT, page, position, value_by, is_message_id, is_attachment_id, legacy_prop}
 use Rattle.carrier_model.specs.TnefLists.{PropList, prop_list, recipient_lists}
-use Rattle.carrier_model.specs.TnefMessage.{Passed, Meaning, Gift, no_gift, message_list, recipients, attachment, Part, part, with_inner, inner_of, content, has_attr, place_tests, Stands, AllStand, Read, props_in, recipients_in, or_else, derived, has_key_of, joined, beside, attached_by, groups, message_by, meaning_by, StreamMeans, IID_MESSAGE, object_with, behind_interface, too_deep, message_within, GREATEST_LEVEL, TnefCarrier, TnefFault}
+use Rattle.carrier_model.specs.TnefMessage.{Passed, Meaning, Held, held_message, held_store, Gift, no_gift, message_list, recipients, attachment, Part, part, with_inner, inner_of, content, has_attr, place_tests, Stands, AllStand, Read, props_in, recipients_in, or_else, derived, has_key_of, joined, beside, attached_by, groups, message_by, meaning_by, StreamMeans, IID_MESSAGE, IID_STORAGE, object_with, behind_interface, refused, message_within, GREATEST_LEVEL, TnefCarrier, TnefFault}
+use Rattle.carrier_model.specs.Reasons.{TOO_DEEP}
+use Rattle.carrier_model.specs.Stores.{IsStore, IsStoreFile, store_bytes}
 use Rattle.carrier_model.specs.Limits.{Limit, too_many_names, too_large, where_passed, first_limit}
-use Rattle.carrier_model.specs.Targets.{MOST_BYTES, passed_size, passed_limit}
+use Rattle.carrier_model.specs.Targets.{passed_size, passed_limit}
 use Rattle.carrier_model.specs.Totals.{capped}
 use Rattle.carrier_model.specs.Commands.{to_tnef}
 use Rattle.carrier_model.specs.TnefCanonical.{list_bytes, attribute, bits_in, integer_or, front, page_attribute, recipients_attribute, props_attribute, rendering_attribute, stream_of, attachments_bytes, content_of, tnef_of}
+use Rattle.carrier_model.proofs.StoreWritten.{written_store}
 use Rattle.carrier_model.proofs.TnefMessage.{message_exact}
 use Rattle.carrier_model.proofs.CanonicalValues.{then_spells, seen_spells, SpellsAll, many_spells}
 use Rattle.carrier_model.proofs.CanonicalLists.{each_of, with_object, list_spells, carrying_spells, shorter_object}
@@ -125,23 +129,23 @@ attrs_there names props rows attachments at lt =
 
 -- ---- each attribute stands
 
-stands : (objects : Whole Meaning) (before : List Attr) (a : Attr) (p : Part) (text rest : List ℕ) → first_fault (place_tests before a) ≡ None → a.bytes ≡ text ++ rest → (content objects a).spells (a.offset + 9) p text → Stands objects before a p
+stands : (objects : Whole Held) (before : List Attr) (a : Attr) (p : Part) (text rest : List ℕ) → first_fault (place_tests before a) ≡ None → a.bytes ≡ text ++ rest → (content objects a).spells (a.offset + 9) p text → Stands objects before a p
 stands objects before a p text rest place parts spelled = record { place = place; means = (rest, record { text = text; parts = parts; spelled = spelled }) }
 
 -- one that gives nothing but what it stands for by itself
-version_content : (objects : Whole Meaning) (at place : ℕ) (x : List ℕ) → (content objects (attr 1 VERSION place x)).spells at (part no_gift []) []
+version_content : (objects : Whole Held) (at place : ℕ) (x : List ℕ) → (content objects (attr 1 VERSION place x)).spells at (part no_gift []) []
 unfolding content
 version_content objects at place x = (refl, refl)
 
-page_content : (objects : Whole Meaning) (at place : ℕ) (x : List ℕ) → (content objects (attr 1 CODE_PAGE place x)).spells at (part no_gift []) []
+page_content : (objects : Whole Held) (at place : ℕ) (x : List ℕ) → (content objects (attr 1 CODE_PAGE place x)).spells at (part no_gift []) []
 unfolding content
 page_content objects at place x = (refl, refl)
 
-rendering_content : (objects : Whole Meaning) (at place : ℕ) (x : List ℕ) → (content objects (attr 2 RENDERING place x)).spells at (part no_gift []) []
+rendering_content : (objects : Whole Held) (at place : ℕ) (x : List ℕ) → (content objects (attr 2 RENDERING place x)).spells at (part no_gift []) []
 unfolding content
 rendering_content objects at place x = (refl, refl)
 
-props_content : (objects : Whole Meaning) (names : List Name) (at place : ℕ) (props : List Prop) → length names ≤ 0x8000 → IsPropList props → length (list_bytes names props None) < 2 ^ 32
+props_content : (objects : Whole Held) (names : List Name) (at place : ℕ) (props : List Prop) → length names ≤ 0x8000 → IsPropList props → length (list_bytes names props None) < 2 ^ 32
     → (content objects (attr 1 MESSAGE_PROPS place (list_bytes names props None))).spells at (part (message_list props) []) (list_bytes names props None)
 unfolding content
 props_content objects names at place props few h lt = seen_spells (prop_list false) (λ l. part (message_list l.props) l.passed) at (with_object props None) (list_bytes names props None) (list_spells false names at props few h lt)
@@ -170,7 +174,7 @@ rows_passed (r ∷ rows) = rows_passed rows
 same_part : (a b : Gift) (l m : List Passed) → a ≡ b → l ≡ m → part a l ≡ part b m
 same_part a b l m e f = λ i. part (e i) (f i)
 
-rows_content : (objects : Whole Meaning) (names : List Name) (at place : ℕ) (rows : List (List Prop)) → length names ≤ 0x8000 → AllByRecursion IsPropList rows → length (flat_map (λ props. list_bytes names props None) rows) < 2 ^ 32
+rows_content : (objects : Whole Held) (names : List Name) (at place : ℕ) (rows : List (List Prop)) → length names ≤ 0x8000 → AllByRecursion IsPropList rows → length (flat_map (λ props. list_bytes names props None) rows) < 2 ^ 32
     → let x = le32 (length rows) ++ flat_map (λ props. list_bytes names props None) rows in (content objects (attr 1 RECIPIENTS place x)).spells at (part (recipients rows) []) x
 unfolding content recipient_lists
 rows_content objects names at place rows few h lt =
@@ -189,18 +193,31 @@ abbrev pub meaning_of : Message → Meaning
 meaning_of m = record { message = m; passed = [] }
 
 -- the Object of an attachment with a message means it, wherever it stands
-abbrev pub ObjectMeans : Whole Meaning → List Name → Body → Type 0
+abbrev pub ObjectMeans : Whole Held → List Name → Body → Type 0
 ObjectMeans objects names nothing = Unit {0}
-ObjectMeans objects names (embedded inner) = (place : ℕ) → objects.means place (IID_MESSAGE ++ stream_of names inner) (meaning_of inner)
+ObjectMeans objects names (embedded inner) = (place : ℕ) → objects.means place (IID_MESSAGE ++ stream_of names inner) (held_message (meaning_of inner))
+ObjectMeans objects names (stored store) = (place : ℕ) → objects.means place (IID_STORAGE ++ store_bytes store) (held_store store)
 
-abbrev pub ObjectsMean : Whole Meaning → List Name → Attachments → Type 0
+abbrev pub ObjectsMean : Whole Held → List Name → Attachments → Type 0
 ObjectsMean objects names no_more = Unit {0}
 ObjectsMean objects names (attached props body others) = ObjectMeans objects names body × ObjectsMean objects names others
 
-inner_spells : (objects : Whole Meaning) (at place : ℕ) (x : List ℕ) (m : Meaning) → objects.means place x m → (inner_of objects (Some (place, x))).spells at (Some m) []
+inner_spells : (objects : Whole Held) (at place : ℕ) (x : List ℕ) (m : Held) → objects.means place x m → (inner_of objects (Some (place, x))).spells at (Some m) []
 inner_spells objects at place x m h = seen_spells (inside objects place x) (λ z. Some z) at m [] (h, refl)
 
-attachment_content : (objects : Whole Meaning) (names : List Name) (at place : ℕ) (props : List Prop) (body : Body) → length names ≤ 0x8000 → IsPropList props → length (list_bytes names props (content_of names body)) < 2 ^ 32 → ObjectMeans objects names body
+-- a list with an Object y that means a body
+object_content : (objects : Whole Held) (names : List Name) (at place : ℕ) (props : List Prop) (body : Body) (y : List ℕ) → length names ≤ 0x8000 → IsPropList props → 16 ≤ length y → length (list_bytes names props (Some y)) < 2 ^ 32 → ((z : ℕ) → objects.means z y (record { body = body; passed = [] }))
+    → (content objects (attr 2 ATTACHMENT place (list_bytes names props (Some y)))).spells at (part (attachment props body) []) (list_bytes names props (Some y))
+unfolding content
+object_content objects names at place props body y few h long lt o =
+    let x = list_bytes names props (Some y) in
+    let l = carrying_spells names at props y few h long lt in
+    let held : Held = record { body = body; passed = [] } in
+    subst (λ z. (content objects (attr 2 ATTACHMENT place x)).spells at (part (attachment props body) []) z) (append-nil x)
+    (then_spells (prop_list true) (λ l. and_then (inner_of objects l.object) (λ m. gives (with_inner l m))) at (with_object props (Some (l.0, y))) (part (attachment props body) []) x [] l.1
+    (seen_spells (inner_of objects (Some (l.0, y))) (λ m. with_inner (with_object props (Some (l.0, y))) m) (at + length x) (Some held) [] (inner_spells objects (at + length x) l.0 y held (o l.0))))
+
+attachment_content : (objects : Whole Held) (names : List Name) (at place : ℕ) (props : List Prop) (body : Body) → length names ≤ 0x8000 → IsPropList props → length (list_bytes names props (content_of names body)) < 2 ^ 32 → ObjectMeans objects names body
     → let x = list_bytes names props (content_of names body) in (content objects (attr 2 ATTACHMENT place x)).spells at (part (attachment props body) []) x
 unfolding content
 attachment_content objects names at place props nothing few h lt o =
@@ -209,13 +226,9 @@ attachment_content objects names at place props nothing few h lt o =
     (then_spells (prop_list true) (λ l. and_then (inner_of objects l.object) (λ m. gives (with_inner l m))) at (with_object props None) (part (attachment props nothing) []) x [] (list_spells true names at props few h lt)
     (seen_spells (inner_of objects None) (λ m. with_inner (with_object props None) m) (at + length x) None [] (refl, refl)))
 attachment_content objects names at place props (embedded inner) few h lt o =
-    let y = IID_MESSAGE ++ stream_of names inner in
-    let x = list_bytes names props (Some y) in
-    let long : 16 ≤ length y = omega arith in
-    let l = carrying_spells names at props y few h long lt in
-    subst (λ z. (content objects (attr 2 ATTACHMENT place x)).spells at (part (attachment props (embedded inner)) []) z) (append-nil x)
-    (then_spells (prop_list true) (λ l. and_then (inner_of objects l.object) (λ m. gives (with_inner l m))) at (with_object props (Some (l.0, y))) (part (attachment props (embedded inner)) []) x [] l.1
-    (seen_spells (inner_of objects (Some (l.0, y))) (λ m. with_inner (with_object props (Some (l.0, y))) m) (at + length x) (Some (meaning_of inner)) [] (inner_spells objects (at + length x) l.0 y (meaning_of inner) (o l.0))))
+    object_content objects names at place props (embedded inner) (IID_MESSAGE ++ stream_of names inner) few h (omega arith) lt o
+attachment_content objects names at place props (stored store) few h lt o =
+    object_content objects names at place props (stored store) (IID_STORAGE ++ store_bytes store) few h (omega arith) lt o
 
 or_later : (a b : Bool) → b ≡ true → (a || b) ≡ true
 or_later true b e = refl
@@ -244,7 +257,7 @@ length-others names props body others =
     let rest = attachments_bytes names others in
     omega (arith, length-append (rendering_attribute props) (a ++ rest), length-append a rest, length-append x (le16 (sum16 x)))
 
-attachments_stand : (objects : Whole Meaning) (names : List Name) (few : length names ≤ 0x8000) (attachments : Attachments) (before : List Attr) (at : ℕ) → HavePropLists attachments → ObjectsMean objects names attachments → length (attachments_bytes names attachments) < 2 ^ 32
+attachments_stand : (objects : Whole Held) (names : List Name) (few : length names ≤ 0x8000) (attachments : Attachments) (before : List Attr) (at : ℕ) → HavePropLists attachments → ObjectsMean objects names attachments → length (attachments_bytes names attachments) < 2 ^ 32
     → AllStand objects before (placed_at at (attachment_attrs names attachments)) (attachment_parts attachments)
 attachments_stand objects names few no_more before at h o lt = tt
 attachments_stand objects names few (attached props body others) before at h o lt =
@@ -270,7 +283,7 @@ abbrev message_parts : List Prop → List (List Prop) → Attachments → List P
 message_parts props rows attachments = part no_gift [] ∷ (part no_gift [] ∷ (row_parts rows ++ part (message_list props) [] ∷ attachment_parts attachments))
 
 -- what the parts of a message need to be spelled
-record Fits (objects : Whole Meaning) (names : List Name) (props : List Prop) (rows : List (List Prop)) (attachments : Attachments) : Type 0 where
+record Fits (objects : Whole Held) (names : List Name) (props : List Prop) (rows : List (List Prop)) (attachments : Attachments) : Type 0 where
   few : length names ≤ 0x8000
   list : IsPropList props
   lists : AllByRecursion IsPropList rows
@@ -287,7 +300,7 @@ abbrev page_at : ℕ → List Prop → Attr
 page_at at props = attr 1 CODE_PAGE at (page_bytes props)
 
 -- the list of a message and its attachments, behind attributes of which none is such a list
-own_stand : (objects : Whole Meaning) (names : List Name) (props : List Prop) (rows : List (List Prop)) (attachments : Attachments) (before : List Attr) (at : ℕ) → Fits objects names props rows attachments
+own_stand : (objects : Whole Held) (names : List Name) (props : List Prop) (rows : List (List Prop)) (attachments : Attachments) (before : List Attr) (at : ℕ) → Fits objects names props rows attachments
     → first_fault (place_tests before (attr 1 MESSAGE_PROPS at (list_bytes names props None))) ≡ None → AllStand objects before (placed_at at (own_attrs names props attachments)) (part (message_list props) [] ∷ attachment_parts attachments)
 own_stand objects names props rows attachments before at h place =
     let x = list_bytes names props None in
@@ -296,7 +309,7 @@ own_stand objects names props rows attachments before at h place =
       attachments_stand objects names h.few attachments (before ++ a ∷ []) (at + (11 + length x)) h.below h.inside h.short_below,
     )
 
-rows_stand : (objects : Whole Meaning) (names : List Name) (props : List Prop) (rows : List (List Prop)) (attachments : Attachments) (first place at : ℕ) → Fits objects names props rows attachments
+rows_stand : (objects : Whole Held) (names : List Name) (props : List Prop) (rows : List (List Prop)) (attachments : Attachments) (first place at : ℕ) → Fits objects names props rows attachments
     → AllStand objects (version_at first ∷ page_at place props ∷ []) (placed_at at (recipient_attrs names rows ++ own_attrs names props attachments)) (row_parts rows ++ part (message_list props) [] ∷ attachment_parts attachments)
 rows_stand objects names props [] attachments first place at h = own_stand objects names props [] attachments (version_at first ∷ page_at place props ∷ []) at h refl
 rows_stand objects names props (r ∷ rows) attachments first place at h =
@@ -307,7 +320,7 @@ rows_stand objects names props (r ∷ rows) attachments first place at h =
       own_stand objects names props (r ∷ rows) attachments (before ++ a ∷ []) (at + (11 + length x)) h refl,
     )
 
-all_stand : (objects : Whole Meaning) (names : List Name) (props : List Prop) (rows : List (List Prop)) (attachments : Attachments) (at : ℕ) → Fits objects names props rows attachments → AllStand objects [] (placed_at at (message_attrs names props rows attachments)) (message_parts props rows attachments)
+all_stand : (objects : Whole Held) (names : List Name) (props : List Prop) (rows : List (List Prop)) (attachments : Attachments) (at : ℕ) → Fits objects names props rows attachments → AllStand objects [] (placed_at at (message_attrs names props rows attachments)) (message_parts props rows attachments)
 all_stand objects names props rows attachments at h = (
   stands objects [] (version_at at) (part no_gift []) [] (le32 0x00010000) refl refl (version_content objects (at + 9) at (le32 0x00010000)),
   (
@@ -383,6 +396,7 @@ each_filtered P t (p ∷ l) h = by (t p) (each_filtered P t l h.1)
 each_beside : (P : Prop → Type 0) (body : Body) (l : List Prop) → AllByRecursion P l → AllByRecursion P (beside body l)
 each_beside P nothing l h = h
 each_beside P (embedded inner) l h = each_filtered P (λ p. not (is_id 0x3701 p.key)) l h
+each_beside P (stored store) l h = each_filtered P (λ p. not (is_id 0x3701 p.key)) l h
 
 -- ---- what the attributes and their parts mean
 
@@ -413,6 +427,7 @@ next_begins at names (attached props body others) = refl
 body_again : (body : Body) → or_else nothing (or_else body nothing) ≡ body
 body_again nothing = refl
 body_again (embedded inner) = refl
+body_again (stored store) = refl
 
 one_attachment : (place at : ℕ) (props : List Prop) (body : Body) (y : List ℕ) → attached_by ((attr 2 RENDERING place (rendering_bytes props), part no_gift []) ∷ ((attr 2 ATTACHMENT at y, part (attachment props body) []) ∷ [])) ≡ (props, body)
 one_attachment place at props body y =
@@ -469,7 +484,7 @@ message_reads at names props (r ∷ rows) attachments =
     ap (λ (own : List Read). message (joined (flat_map (λ (r : Read). props_in r.1.gift) own) (derived own)) (flat_map (λ (r : Read). recipients_in r.1.gift) own) (attachments_from (map attached_by (groups (filter (λ (r : Read). is_attachment_id r.0.id) (front ++ theirs)))))) own ∙ parts in
     λ i. record { message = m i; passed = none_passed (place + (11 + length x)) names attachments i }
 
-stream_means : (objects : Whole Meaning) (names : List Name) (props : List Prop) (rows : List (List Prop)) (attachments : Attachments) (at : ℕ) → Fits objects names props rows attachments → length (stream_of names (message props rows attachments)) < 2 ^ 32
+stream_means : (objects : Whole Held) (names : List Name) (props : List Prop) (rows : List (List Prop)) (attachments : Attachments) (at : ℕ) → Fits objects names props rows attachments → length (stream_of names (message props rows attachments)) < 2 ^ 32
     → StreamMeans objects at (stream_of names (message props rows attachments)) (meaning_of (message props rows attachments))
 stream_means objects names props rows attachments at h lt = record {
   attrs = placed_at (at + 6) (message_attrs names props rows attachments);
@@ -481,9 +496,9 @@ stream_means objects names props rows attachments at h lt = record {
 
 -- ---- a tree, level by level
 
-abbrev objects_of : ℕ → Whole Meaning
-objects_of zero = object_with too_deep
-objects_of (suc n) = object_with (behind_interface (message_within n))
+abbrev objects_of : ℕ → Whole Held
+objects_of zero = object_with (refused TOO_DEEP)
+objects_of (suc n) = object_with (behind_interface held_message (message_within n))
 
 at_level : (n at : ℕ) (bytes : List ℕ) (m : Meaning) → StreamMeans (objects_of n) at bytes m → (message_within n).means at bytes m
 unfolding message_within
@@ -517,51 +532,56 @@ shorter names props rows attachments =
     let rs = length-recipients names rows in
     record { list = omega (arith, whole, tail, own); lists = omega (arith, whole, tail, rs); below = omega (arith, whole, tail) }
 
+store_means : (names : List Name) (store : Store) (props : List Prop) → IsPropList props → IsStore store → length (list_bytes names props (content_of names (stored store))) ≤ MOST_BYTES → IsStoreFile (store_bytes store) store
+store_means names store props l h le = written_store store h (omega (arith, shorter_object names props (IID_STORAGE ++ store_bytes store) l, le))
+
 mutual
-  message_means : (names : List Name) (few : length names ≤ 0x8000) (m : Message) (n at : ℕ) → HasPropLists m → depth m ≤ n → length (stream_of names m) < 2 ^ 32 → (message_within n).means at (stream_of names m) (meaning_of m)
+  message_means : (names : List Name) (few : length names ≤ 0x8000) (m : Message) (n at : ℕ) → HasPropLists m → depth m ≤ n → length (stream_of names m) ≤ MOST_BYTES → (message_within n).means at (stream_of names m) (meaning_of m)
   message_means names few (message props rows attachments) n at h deep lt =
       let s = shorter names props rows attachments in
-      let below : length (attachments_bytes names attachments) < 2 ^ 32 = omega (arith, s.below) in
+      let below : length (attachments_bytes names attachments) ≤ MOST_BYTES = omega (arith, s.below, lt) in
       let fits : Fits (objects_of n) names props rows attachments = record {
         few = few;
         list = h.0;
         lists = each_list rows h.1.0;
         below = h.1.1;
         inside = objects_mean names few attachments n h.1.1 deep below;
-        short = omega (arith, s.list);
-        short_rows = omega (arith, s.lists);
-        short_below = below;
+        short = omega (arith, s.list, lt);
+        short_rows = omega (arith, s.lists, lt);
+        short_below = omega (arith, below);
       } in
-      at_level n at (stream_of names (message props rows attachments)) (meaning_of (message props rows attachments)) (stream_means (objects_of n) names props rows attachments at fits lt)
+      at_level n at (stream_of names (message props rows attachments)) (meaning_of (message props rows attachments)) (stream_means (objects_of n) names props rows attachments at fits (omega (arith, lt)))
 
-  objects_mean : (names : List Name) (few : length names ≤ 0x8000) (attachments : Attachments) (n : ℕ) → HavePropLists attachments → depth_in attachments ≤ n → length (attachments_bytes names attachments) < 2 ^ 32 → ObjectsMean (objects_of n) names attachments
+  objects_mean : (names : List Name) (few : length names ≤ 0x8000) (attachments : Attachments) (n : ℕ) → HavePropLists attachments → depth_in attachments ≤ n → length (attachments_bytes names attachments) ≤ MOST_BYTES → ObjectsMean (objects_of n) names attachments
   objects_mean names few no_more n h deep lt = tt
   objects_mean names few (attached props body others) n h deep lt =
       let len = length-others names props body others in
-      let here : length (list_bytes names props (content_of names body)) < 2 ^ 32 = omega (arith, len) in
-      let rest : length (attachments_bytes names others) < 2 ^ 32 = omega (arith, len) in
+      let here : length (list_bytes names props (content_of names body)) ≤ MOST_BYTES = omega (arith, len, lt) in
+      let rest : length (attachments_bytes names others) ≤ MOST_BYTES = omega (arith, len, lt) in
       (object_means names few body n props h.0 h.1.0 (omega (arith, deep)) here, objects_mean names few others n h.1.1 (omega (arith, deep)) rest)
 
-  object_means : (names : List Name) (few : length names ≤ 0x8000) (body : Body) (n : ℕ) (props : List Prop) → IsPropList props → BodyHasPropLists body → depth_of_body body ≤ n → length (list_bytes names props (content_of names body)) < 2 ^ 32 → ObjectMeans (objects_of n) names body
+  object_means : (names : List Name) (few : length names ≤ 0x8000) (body : Body) (n : ℕ) (props : List Prop) → IsPropList props → BodyHasPropLists body → depth_of_body body ≤ n → length (list_bytes names props (content_of names body)) ≤ MOST_BYTES → ObjectMeans (objects_of n) names body
   object_means names few nothing n props l h deep lt = tt
   object_means names few (embedded inner) zero props l h deep lt = absurd (omega (arith, deep))
   object_means names few (embedded inner) (suc n) props l h deep lt =
       let x = IID_MESSAGE ++ stream_of names inner in
       let len = shorter_object names props x l in
-      let short : length (stream_of names inner) < 2 ^ 32 = omega (arith, len) in
-      λ place. (refl, message_means names few inner n (place + 16) h (omega (arith, deep)) short)
+      let short : length (stream_of names inner) ≤ MOST_BYTES = omega (arith, len, lt) in
+      λ place. (meaning_of inner, message_means names few inner n (place + 16) h (omega (arith, deep)) short, refl)
+  object_means names few (stored store) zero props l h deep lt = λ place. (store, store_means names store props l h lt, refl)
+  object_means names few (stored store) (suc n) props l h deep lt = λ place. (store, store_means names store props l h lt, refl)
 
 -- the canonical stream of a tree means that tree, and nothing is passed over
-pub tree_means : (t : Message) → IsTree t → length (names_of t) ≤ 32000 → length (tnef_of t) < 2 ^ 32 → TnefCarrier (tnef_of t) t []
+pub tree_means : (t : Message) → IsTree t → length (names_of t) ≤ 32000 → length (tnef_of t) ≤ MOST_BYTES → TnefCarrier (tnef_of t) t []
 tree_means t h few lt = message_means (names_of t) (omega arith) t GREATEST_LEVEL 0 h.lists h.levels lt
 
 -- and no other tree
-pub tree_alone : (t other : Message) (passed : List Passed) → IsTree t → length (names_of t) ≤ 32000 → length (tnef_of t) < 2 ^ 32 → TnefCarrier (tnef_of t) other passed → (other ≡ t) × (passed ≡ [])
+pub tree_alone : (t other : Message) (passed : List Passed) → IsTree t → length (names_of t) ≤ 32000 → length (tnef_of t) ≤ MOST_BYTES → TnefCarrier (tnef_of t) other passed → (other ≡ t) × (passed ≡ [])
 tree_alone t other passed h few lt c =
     let same = (message_exact GREATEST_LEVEL 0 (tnef_of t)).one (meaning_of t) (record { message = other; passed = passed }) (tree_means t h few lt) c in
     (ap (λ m. m.message) same, ap (λ m. m.passed) same)
 
-pub tree_faultless : (t : Message) (g : Fault) → IsTree t → length (names_of t) ≤ 32000 → length (tnef_of t) < 2 ^ 32 → TnefFault (tnef_of t) g → ⊥
+pub tree_faultless : (t : Message) (g : Fault) → IsTree t → length (names_of t) ≤ 32000 → length (tnef_of t) ≤ MOST_BYTES → TnefFault (tnef_of t) g → ⊥
 tree_faultless t g h few lt f = (message_exact GREATEST_LEVEL 0 (tnef_of t)).apart (meaning_of t) g (tree_means t h few lt) f
 
 -- a limit that is not passed
@@ -577,4 +597,4 @@ tree_within t b h e =
     let names = not_passed 32000 (length (names_of t)) (too_many_names (length (names_of t))) (passed_size (tnef_of t)) e in
     let whole : first_limit (passed_size (tnef_of t) ++ []) ≡ None = ap first_limit (append-nil (passed_size (tnef_of t))) ∙ names.1 in
     let size = not_passed MOST_BYTES (length (tnef_of t)) (too_large (capped (length (tnef_of t)))) [] whole in
-    tree_means t h names.0 (omega (arith, size.0))
+    tree_means t h names.0 size.0

@@ -1,8 +1,7 @@
 -- The first fault of a chain, from what a walk over marks gives.
 use Rattle.std.proofs.Common.{◌≡◌, ℕ, zero, suc, ◌+◌, ◌-◌, ◌<◌, ◌≤◌, List, [], ◌∷◌, length, get_or, Bool, refl, ◌∙◌, arith, Ok, Err}
 use Rattle.std.proofs.lemmas.Bool.{ne_eqb, eq-eqb, le-ltb, lt-ltb}
-use Rattle.carrier_model.specs.Chains.{end_word}
-use Rattle.carrier_model.specs.Chains.{chain_of, chain_end, named_at, stop_reason}
+use Rattle.carrier_model.specs.Chains.{end_word, chain_of, chain_end, named_at, stop_reason}
 use Rattle.carrier_model.specs.Marks.{Marks, Stops}
 use Rattle.carrier_model.specs.Reasons.{SHORT_CHAIN}
 use Rattle.carrier_model.proofs.ChainLaws.{longest_Stops, after_Leads}

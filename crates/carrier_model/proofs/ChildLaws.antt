@@ -77,12 +77,12 @@ names_from d (f ∷ fs) h = rw (family_from d f [] h.0) (names_from d fs h.1)
 -- the tree's names
 abbrev top_of : Directory → (ℕ → Stream) → ℕ → Links → Children → Children
 top_of d streams id c after =
-    let tag : Tag = record { name = name_of (d.entry id); id = id; place = d.place id } in
+    let tag : Tag = record { name = name_of (d.entry id); id = id; place = d.place id; class = (d.entry id).class } in
     cond (is_storage (d.entry id)) (storage tag (tree_of d streams c none) after) (stream tag (streams id) after)
 
 top_names : (d : Directory) (streams : ℕ → Stream) (id : ℕ) (c : Links) (after : Children) → child_names (top_of d streams id c after) ≡ name_of (d.entry id) ∷ child_names after
 top_names d streams id c after =
-    let tag : Tag = record { name = name_of (d.entry id); id = id; place = d.place id } in
+    let tag : Tag = record { name = name_of (d.entry id); id = id; place = d.place id; class = (d.entry id).class } in
     elim (cases_Bool (is_storage (d.entry id))) [
       | inl holds ↦ ap child_names (cond-true (is_storage (d.entry id)) (storage tag (tree_of d streams c none) after) (stream tag (streams id) after) holds)
       | inr other ↦ ap child_names (cond-false (is_storage (d.entry id)) (storage tag (tree_of d streams c none) after) (stream tag (streams id) after) other)
@@ -104,7 +104,7 @@ own_names d streams t = tree_names d streams t none ∙ append-nil (names_in d (
 pub tree_have : (d : Directory) (streams : ℕ → Stream) (t : Links) (rest : Children) → FamiliesApart d (families t) → HaveNames rest → HaveNames (tree_of d streams t rest)
 tree_have d streams leaf rest h k = k
 tree_have d streams (node id l r c) rest h k =
-    let tag : Tag = record { name = name_of (d.entry id); id = id; place = d.place id } in
+    let tag : Tag = record { name = name_of (d.entry id); id = id; place = d.place id; class = (d.entry id).class } in
     let after = tree_of d streams r rest in
     let p = each-split (λ family. AreApart (names_in d family)) (families l) (families r ++ families c) h.1 in
     let q = each-split (λ family. AreApart (names_in d family)) (families r) (families c) p.1 in
@@ -128,7 +128,7 @@ pub tree_had : (d : Directory) (streams : ℕ → Stream) (depth x : ℕ) (t : L
 unfolding IsDistinct
 tree_had d streams depth x leaf rest few linked h = (tt, h)
 tree_had d streams depth x (node id l r c) rest few linked h =
-    let tag : Tag = record { name = name_of (d.entry id); id = id; place = d.place id } in
+    let tag : Tag = record { name = name_of (d.entry id); id = id; place = d.place id; class = (d.entry id).class } in
     let after = tree_of d streams r rest in
     let p = tree_had d streams depth (d.entry id).left l (top_of d streams id c after) few linked.3 h in
     let below : AreApart (names_in d (siblings c)) × FamiliesApart d (families c) × HaveNames after = elim (cases_Bool (is_storage (d.entry id))) [
@@ -148,7 +148,7 @@ tree_had d streams depth x (node id l r c) rest few linked h =
 pub tree_same : (d : Directory) (f g : ℕ → Stream) (t : Links) (rest : Children) → AllByRecursion (λ id. is_storage (d.entry id) ≡ false → f id ≡ g id) (ids t) → tree_of d f t rest ≡ tree_of d g t rest
 tree_same d f g leaf rest same = refl
 tree_same d f g (node id l r c) rest same =
-    let tag : Tag = record { name = name_of (d.entry id); id = id; place = d.place id } in
+    let tag : Tag = record { name = name_of (d.entry id); id = id; place = d.place id; class = (d.entry id).class } in
     let p = each-split (λ id. is_storage (d.entry id) ≡ false → f id ≡ g id) (ids l) (ids r ++ ids c) same.1 in
     let q = each-split (λ id. is_storage (d.entry id) ≡ false → f id ≡ g id) (ids r) (ids c) p.1 in
     let after : tree_of d f r rest ≡ tree_of d g r rest = tree_same d f g r rest q.0 in

@@ -1,5 +1,5 @@
 -- What is opened is what the file holds.
-use Rattle.std.proofs.Common.{◌≡◌, ℕ, zero, suc, ◌+◌, ◌*◌, ◌/◌, ◌<◌, ◌≤◌, List, [], ◌∷◌, ◌++◌, length, map, Bool, true, false, ◌&&◌, ◌||◌, eqb, refl, sym, ◌∙◌, ap, subst, arith, Ok, Err, Result, inl, inr}
+use Rattle.std.proofs.Common.{◌≡◌, ℕ, zero, suc, ◌+◌, ◌*◌, ◌/◌, ◌<◌, ◌≤◌, List, [], ◌∷◌, ◌++◌, length, map, Bool, true, false, ◌&&◌, ◌||◌, eqb, leb, cond, refl, sym, ◌∙◌, ap, subst, arith, Ok, Err, Result, inl, inr}
 use Rattle.std.specs.Prelude.{IsTrue}
 use Rattle.std.specs.List.{range_with_len, list_any, IsDistinct, AllByRecursion}
 use Rattle.std.proofs.lemmas.Bool.{ne_eqb, eq-eqb, eqb-true, eqb-false, cases_Bool, cases_eq, or_cases}
@@ -11,19 +11,20 @@ use Rattle.carrier_model.specs.Trail.{Fault}
 use Rattle.carrier_model.specs.Outcomes.{mapped}
 use Rattle.carrier_model.specs.Chains.{member, Chain, end_word}
 use Rattle.carrier_model.specs.Entries.{Entry}
-use Rattle.carrier_model.specs.Files.{Children, none, Files, Claim, Opened, directory_in, first_link, all_families, names_of, stream_ids, claims_of, chain_in, files_of, opened_of, open_of}
-use Rattle.carrier_model.specs.Holds.{AreApart, HaveNames, IsStream, IsMini, IsLoaded, Holds, child_names, long_parts, short_parts}
+use Rattle.carrier_model.specs.Files.{Children, none, Files, Claim, Opened, directory_in, first_link, all_families, names_of, stream_ids, claims_of, chain_in, files_of, opened_of, open_of, open_file}
+use Rattle.carrier_model.specs.Holds.{AreApart, HaveNames, IsStream, IsMini, IsLoaded, Holds, FileHolds, child_names, long_parts, short_parts}
 use Rattle.carrier_model.specs.Links.{Directory, Links, leaf, node, no_link, ids, is_storage, has_type, below_depth, below_link, links_of, Linked}
 use Rattle.carrier_model.specs.Loads.{Loaded, Mini, load_of, taken_by, chain_bound, mini_bound, long_part, short_part, stream_of}
-use Rattle.carrier_model.specs.Sectors.{is_size, sector_words, table_words}
+use Rattle.carrier_model.specs.Sectors.{is_size, u16_of, sector_words, table_words}
 use Rattle.carrier_model.specs.Streams.{Stream}
+use Rattle.carrier_model.specs.Tables.{Head, is_signature, major, sector_size, header_of}
 use Rattle.carrier_model.proofs.Apart.{distinct-split}
 use Rattle.carrier_model.proofs.ChildLaws.{each-append, names_ok, names_from, own_names, tree_have, tree_had, tree_same}
 use Rattle.carrier_model.proofs.ClaimedLaws.{claims_ok, claims_from, claims_with, chain_with, chain_in-agrees, streams-by_number, parts-by_number, rising-apart}
 use Rattle.carrier_model.proofs.LoadedLaws.{load_ok, load_from, few_sectors, few_words}
 use Rattle.carrier_model.proofs.PlaceLaws.{size_cases}
 use Rattle.carrier_model.proofs.TableLaws.{answered, same_answer, new-apart, apart-new}
-use Rattle.carrier_model.proofs.VisitLaws.{bind_ok, visit-sound, visit-only, unseen-le}
+use Rattle.carrier_model.proofs.VisitLaws.{bind_ok, check_ok, visit-sound, visit-only, unseen-le}
 
 -- the files of a file whose parts are read
 parts_hold : (z : ℕ) (b : List ℕ) (s : Loaded) (t : Links) (cs : List Claim) (u : Unit {0}) → load_of z b ≡ Ok s → links_of (directory_in z b s.directory) (first_link (directory_in z b s.directory)) (0 ∷ []) ≡ Ok t → names_of (directory_in z b s.directory) (all_families t) ≡ Ok u → claims_of z b s (directory_in z b s.directory) (stream_ids (directory_in z b s.directory) t) (taken_by s) [] ≡ Ok cs → Holds z b (files_of z b s (chain_in cs) t)
@@ -187,10 +188,10 @@ holds_opened z b f h short is =
     let same = tree_same d (λ id. stream_of z b s (d.entry id) (chain_in (claims_with is.chain (stream_ids d t)) id)) streams t none
     (same_streams d t (chain_in (claims_with is.chain (stream_ids d t))) is.chain (λ id c. stream_of z b s (d.entry id) c) (ids t) (linked_each d 1 (d.entry 0).child t is.linked) (each_member (ids t)) (λ id k. chain_with is.chain (stream_ids d t) id k)) in
     ap (mapped (λ (o : Opened). files_of z b o.loaded (chain_in o.claims) o.links)) opened
-    ∙ ap (λ (c : Children). answered (files c (d.place 0))) same ∙ ap answered (sym tree)
+    ∙ ap (λ (c : Children). answered (files c (d.place 0) (d.entry 0).class)) same ∙ ap answered (sym tree)
   where
-    files : Children → ℕ → Files
-    files c p = record { place = p; children = c }
+    files : Children → ℕ → List ℕ → Files
+    files c p class = record { place = p; class = class; children = c }
 
 -- it holds one tree of files alone, and none where there is a fault
 pub one_file : (z : ℕ) (b : List ℕ) (f g : Files) → IsTrue (is_size z) → length b ≤ 268435456 → Holds z b f → Holds z b g → f ≡ g
@@ -201,3 +202,32 @@ no_fault z b f g h short e x = differ f g (sym (holds_opened z b f h short x) �
   where
     differ : (f : Files) (g : Fault) → answered f ≡ Err g → ⊥
     differ f g e = absurd (cc)
+
+-- ---- either version
+
+-- the size that a version says is one of the two
+pub size_known : (b : List ℕ) → IsTrue (is_size (sector_size b))
+size_known b = either (eqb (u16_of b 26) 4)
+  where
+    either : (four : Bool) → IsTrue (is_size (cond four 4096 512))
+    either true = refl
+    either false = refl
+
+-- a header that is read says its size
+pub size_said : (z : ℕ) (b : List ℕ) (h : Head) → IsTrue (is_size z) → header_of z b ≡ Ok h → sector_size b ≡ z
+unfolding header_of
+size_said z b h size is =
+    let long = check_ok (leb 512 (length b)) _ _ _ h is in
+    let signed = check_ok (is_signature b) _ _ _ h long.1 in
+    let version = eqb-true (u16_of b 26) (major z) (check_ok (eqb (u16_of b 26) (major z)) _ _ _ h signed.1).0 in
+    elim (size_cases z size) [
+      | inl a ↦ ap (λ v. cond (eqb v 4) 4096 512) (version ∙ ap major a) ∙ sym a
+      | inr a ↦ ap (λ v. cond (eqb v 4) 4096 512) (version ∙ ap major a) ∙ sym a
+    ]
+
+-- what is held in sectors of a size is held in those that the version says
+pub file_holds : (z : ℕ) (b : List ℕ) (f : Files) → IsTrue (is_size z) → Holds z b f → FileHolds b f
+file_holds z b f size h = subst (λ k. Holds k b f) (sym (size_said z b h.tables.head size h.tables.header)) h
+
+pub file_opened : (b : List ℕ) (f : Files) → length b ≤ 268435456 → FileHolds b f → open_file b ≡ Ok f
+file_opened b f short h = holds_opened (sector_size b) b f (size_known b) short h

@@ -1,5 +1,5 @@
--- Consecutive sectors are a chain, in a file that is laid out in sectors of 512 bytes.
-use Rattle.std.proofs.Common.{◌≡◌, ℕ, zero, suc, ◌+◌, ◌-◌, ◌*◌, ◌<◌, ◌≤◌, List, [], ◌∷◌, ◌++◌, length, min, replicate, refl, sym, ◌∙◌, ap, subst, arith}
+-- Consecutive sectors are a chain, in a file that is laid out.
+use Rattle.std.proofs.Common.{◌≡◌, ℕ, zero, suc, ◌+◌, ◌-◌, ◌*◌, ◌/◌, ◌<◌, ◌≤◌, List, [], ◌∷◌, ◌++◌, length, min, replicate, refl, sym, ◌∙◌, ap, subst, arith}
 use Rattle.std.specs.List.{range_with_len}
 use Rattle.std.proofs.lemmas.List.{length-replicate}
 use Rattle.carrier_model.specs.Chains.{Leads, Chain, word, end_word}
@@ -10,6 +10,7 @@ use Rattle.carrier_model.proofs.LaidFat.{range-distinct, range-below}
 use Rattle.carrier_model.proofs.LaidHeader.{counted}
 use Rattle.carrier_model.proofs.LaidParts.{IsPlan, AreParts, inner_words, table-length}
 use Rattle.carrier_model.proofs.LaidTables.{run-length}
+use Rattle.carrier_model.proofs.Sizes.{SizeOf}
 
 run-leads : (n : ℕ) (T : List ℕ) (start : ℕ) → Lies T start (run_words start (suc n)) → Leads T start (range_with_len start (suc n)) end_word
 run-leads zero T start l = (refl, byte-lies T start end_word l)
@@ -27,22 +28,22 @@ unfolding Rattle.std.specs.List.IsDistinct
 no-chain T bound = record { linked = refl; distinct = tt; below = tt }
 
 -- where the runs stand in the table
-pub record AreRuns (p : Plan) (slots : List Slot) : Type 0 where
-  pub directory : Lies (table_of 512 p slots) (directory_start p) (run_words (directory_start p) p.sizes.directory)
-  pub mini_fat : Lies (table_of 512 p slots) (mini_fat_start p) (run_words (mini_fat_start p) p.sizes.mini_fat)
-  pub mini_stream : Lies (table_of 512 p slots) (mini_stream_start p) (run_words (mini_stream_start p) p.sizes.mini_stream)
-  pub long : Lies (table_of 512 p slots) (long_start p) (stream_words 512 (long_start p) (long_streams slots))
+pub record AreRuns (z : ℕ) (p : Plan) (slots : List Slot) : Type 0 where
+  pub directory : Lies (table_of z p slots) (directory_start p) (run_words (directory_start p) p.sizes.directory)
+  pub mini_fat : Lies (table_of z p slots) (mini_fat_start p) (run_words (mini_fat_start p) p.sizes.mini_fat)
+  pub mini_stream : Lies (table_of z p slots) (mini_stream_start p) (run_words (mini_stream_start p) p.sizes.mini_stream)
+  pub long : Lies (table_of z p slots) (long_start p) (stream_words z (long_start p) (long_streams slots))
 
-pub runs_lie : (p : Plan) (slots : List Slot) → AreRuns p slots
-runs_lie p slots =
-    let T = table_of 512 p slots in
-    let e = stream_words 512 (long_start p) (long_streams slots) in
+pub runs_lie : (z : ℕ) (p : Plan) (slots : List Slot) → AreRuns z p slots
+runs_lie z p slots =
+    let T = table_of z p slots in
+    let e = stream_words z (long_start p) (long_streams slots) in
     let rd = run_words (mini_stream_start p) p.sizes.mini_stream in
     let rc = run_words (mini_fat_start p) p.sizes.mini_fat in
     let rb = run_words (directory_start p) p.sizes.directory in
     let a = replicate p.difat DIFAT_SECTOR in
     let f = replicate p.fat FAT_SECTOR in
-    let whole = lies-front T 0 (inner_words p slots) (replicate (128 * p.fat - length (inner_words p slots)) FREE) (lies-whole T) in
+    let whole = lies-front T 0 (inner_words z p slots) (replicate (z / 4 * p.fat - length (inner_words z p slots)) FREE) (lies-whole T) in
     let l1 = lies-back T 0 p.fat f (a ++ (rb ++ (rc ++ (rd ++ e)))) (omega (arith, length-replicate p.fat FAT_SECTOR)) whole in
     let l2 = lies-back T p.fat (directory_start p) a (rb ++ (rc ++ (rd ++ e))) (ap (λ k. p.fat + k) (sym (length-replicate p.difat DIFAT_SECTOR))) l1 in
     let l3 = lies-back T (directory_start p) (mini_fat_start p) rb (rc ++ (rd ++ e)) (ap (λ k. directory_start p + k) (sym (run-length (directory_start p) p.sizes.directory))) l2 in
@@ -56,9 +57,9 @@ runs_lie p slots =
     }
 
 -- chains reach all sectors
-pub bound-is : (p : Plan) (slots : List Slot) (b : List ℕ) → AreParts p slots b → IsPlan p slots → chain_bound 512 b (table_of 512 p slots) ≡ p.fat + p.difat + rest_of p.sizes
-bound-is p slots b is plan =
-    let n = counted b (p.fat + p.difat + rest_of p.sizes) is.size in
-    let t = table-length p slots plan in
+pub bound-is : (z : ℕ) (v : SizeOf z) (p : Plan) (slots : List Slot) (b : List ℕ) → AreParts z p slots b → IsPlan z p slots → chain_bound z b (table_of z p slots) ≡ p.fat + p.difat + rest_of p.sizes
+bound-is z v p slots b is plan =
+    let n = counted z v b (p.fat + p.difat + rest_of p.sizes) is.size in
+    let t = table-length z p slots plan in
     let e = plan.enough in
-    ap (λ k. min k (length (table_of 512 p slots))) n.0 ∙ (ap (λ k. min (p.fat + p.difat + rest_of p.sizes) k) t ∙ omega (arith, e))
+    ap (λ k. min k (length (table_of z p slots))) n.0 ∙ (ap (λ k. min (p.fat + p.difat + rest_of p.sizes) k) t ∙ omega (arith, e))

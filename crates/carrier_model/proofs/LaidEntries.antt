@@ -1,14 +1,15 @@
 -- Directory entries that are laid out, as they are read.
-use Rattle.std.proofs.Common.{◌≡◌, ℕ, zero, suc, ◌+◌, ◌-◌, ◌*◌, ◌/◌, ◌^◌, ◌<◌, ◌≤◌, List, [], ◌∷◌, ◌++◌, length, get_or, map, take, replicate, refl, sym, ◌∙◌, ap, subst, arith}
+use Rattle.std.proofs.Common.{◌≡◌, ℕ, zero, suc, ◌+◌, ◌-◌, ◌*◌, ◌/◌, ◌^◌, ◌<◌, ◌≤◌, List, [], ◌∷◌, ◌++◌, length, get_or, map, take, drop, replicate, Bool, true, false, cond, eqb, refl, sym, ◌∙◌, ap, subst, arith}
 use Rattle.std.specs.List.{range_with_len, flat_map, AllByRecursion}
-use Rattle.std.proofs.lemmas.List.{append_assoc, length-replicate, take_at, ext_get_or}
+use Rattle.std.proofs.lemmas.List.{append_assoc, length-replicate, take_at, drop_at, ext_get_or}
 use Rattle.std.proofs.lemmas.List.FromFn.{length-map-range_with_len, get_or-map-range_with_len}
 use Rattle.std.proofs.lemmas.Grind.{flat_map-append}
 use Rattle.carrier_model.specs.Bytes.{le16, le32}
-use Rattle.carrier_model.specs.Entries.{Entry, entry_at}
+use Rattle.carrier_model.specs.Entries.{Entry, size_at, entry_at}
 use Rattle.carrier_model.specs.Files.{name_of}
 use Rattle.carrier_model.specs.Layout.{Slot, BLACK, name_field, slot_bytes}
 use Rattle.carrier_model.specs.Sectors.{u16_of}
+use Rattle.carrier_model.specs.Tables.{major}
 use Rattle.carrier_model.proofs.LaidBytes.{Lies, lies-front, lies-back, u16-lies, u32-lies, byte-lies}
 use Rattle.carrier_model.proofs.LaidParts.{joined, IsFit, units-length, name-length}
 
@@ -61,6 +62,7 @@ entry_of_slot s start size = record {
   left = s.left;
   right = s.right;
   child = s.child;
+  class = s.class;
   start = start;
   size = size;
 }
@@ -79,9 +81,27 @@ name-units b o name few fit l =
       u16-lies b (o + 64) (2 * (length name + 1)) (omega (arith, few)) (lies-back b o (o + 64) (flat_map le16 name ++ zeros) bytes size left),
     )
 
+-- a class of 16 bytes
+class-lies : (b : List ℕ) (at : ℕ) (x : List ℕ) → length x ≡ 16 → Lies b at x → take 16 (drop at b) ≡ x
+class-lies b at x long l =
+    ap (λ c. take 16 (drop at c)) l.parts
+    ∙ (ap (take 16) (drop_at l.before (x ++ l.behind) at l.place)
+    ∙ take_at x l.behind 16 long)
+
+-- a size whose high half is zero
+size-lies : (z : ℕ) (b : List ℕ) (o size : ℕ) → size < 2 ^ 32 → (high : List ℕ) → Lies b (o + 120) (le32 size ++ high) → high ≡ le32 0 → size_at z b o ≡ size
+size-lies z b o size few high l none =
+    let low = u32-lies b (o + 120) size few (lies-front b (o + 120) (le32 size) high l) in
+    let zero_half = u32-lies b (o + 124) 0 (omega arith) (subst (Lies b (o + 124)) none (lies-back b (o + 120) (o + 124) (le32 size) high (omega arith) l)) in
+    rw (low, zero_half) (either (eqb (major z) 4))
+  where
+    either : (four : Bool) → size + cond four (2 ^ 32 * 0) 0 ≡ size
+    either true = omega arith
+    either false = omega arith
+
 -- an entry that lies there is read
-pub entry-lies : (b : List ℕ) (o : ℕ) (s : Slot) (start size : ℕ) → IsSlot s → start < 2 ^ 32 → size < 2 ^ 32 → Lies b o (slot_bytes s start size) → entry_at b o ≡ entry_of_slot s start size
-entry-lies b o s start size is small few l =
+pub entry-lies : (z : ℕ) (b : List ℕ) (o : ℕ) (s : Slot) (start size : ℕ) → IsSlot s → start < 2 ^ 32 → size < 2 ^ 32 → Lies b o (slot_bytes s start size) → entry_at z b o ≡ entry_of_slot s start size
+entry-lies z b o s start size is small few l =
     let tail = le32 start ++ (le32 size ++ le32 0) in
     let back = s.class ++ (replicate 20 0 ++ tail) in
     let links = le32 s.left ++ (le32 s.right ++ (le32 s.child ++ back)) in
@@ -95,7 +115,7 @@ entry-lies b o s start size is small few l =
     let at96 = lies-back b (o + 80) (o + 96) s.class (replicate 20 0 ++ tail) (omega (arith, is.fit.class)) at80 in
     let at116 = lies-back b (o + 96) (o + 116) (replicate 20 0) tail (omega arith) at96 in
     let at120 = lies-back b (o + 116) (o + 120) (le32 start) (le32 size ++ le32 0) (omega arith) at116 in
-    rw (n.0, n.1, kind, u32-lies b (o + 68) s.left is.left (lies-front b (o + 68) (le32 s.left) (le32 s.right ++ (le32 s.child ++ back)) at68), u32-lies b (o + 72) s.right is.right (lies-front b (o + 72) (le32 s.right) (le32 s.child ++ back) at72), u32-lies b (o + 76) s.child is.child (lies-front b (o + 76) (le32 s.child) back at76), u32-lies b (o + 116) start small (lies-front b (o + 116) (le32 start) (le32 size ++ le32 0) at116), u32-lies b (o + 120) size few (lies-front b (o + 120) (le32 size) (le32 0) at120)) refl
+    rw (n.0, n.1, kind, class-lies b (o + 80) s.class is.fit.class (lies-front b (o + 80) s.class (replicate 20 0 ++ tail) at80), u32-lies b (o + 68) s.left is.left (lies-front b (o + 68) (le32 s.left) (le32 s.right ++ (le32 s.child ++ back)) at68), u32-lies b (o + 72) s.right is.right (lies-front b (o + 72) (le32 s.right) (le32 s.child ++ back) at72), u32-lies b (o + 76) s.child is.child (lies-front b (o + 76) (le32 s.child) back at76), u32-lies b (o + 116) start small (lies-front b (o + 116) (le32 start) (le32 size ++ le32 0) at116), size-lies z b o size few (le32 0) at120) refl
 
 -- and its name
 pub name-read : (s : Slot) (start size : ℕ) → name_of (entry_of_slot s start size) ≡ s.name

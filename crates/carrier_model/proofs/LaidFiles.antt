@@ -7,11 +7,12 @@ use Rattle.std.proofs.lemmas.List.{length-append}
 use Rattle.std.proofs.lemmas.List.Sorted.{IsPermutation-refl, IsPermutation-trans, IsPermutation-cons, IsPermutation-append_left, IsPermutation-append_right}
 use Rattle.carrier_model.specs.Entries.{Entry}
 use Rattle.carrier_model.specs.FileTrees as trees
-use Rattle.carrier_model.specs.FileTrees.{FileTree, NO_CLASS, entries_in}
+use Rattle.carrier_model.specs.FileTrees.{FileTree, entries_in, file_names}
 use Rattle.carrier_model.specs.Files.{Tag, Children, none, storage, stream, name_of, tree_of}
 use Rattle.carrier_model.specs.Holds.{AreApart, child_names, HaveNames}
 use Rattle.carrier_model.specs.Layout.{Slot, sibling_numbers, links_of_siblings, top_of, side_links, slots_from}
-use Rattle.carrier_model.specs.LayoutHolds.{file_names, MayBeWrittenAt, bare, classless}
+use Rattle.carrier_model.specs.LayoutHolds.{MayBeWrittenAt}
+use Rattle.carrier_model.specs.Stores.{bare}
 use Rattle.carrier_model.specs.Links.{Directory, leaf, no_link, ids, is_storage, has_type, has_name, fits_depth, Linked, below_depth, below_link}
 use Rattle.carrier_model.specs.Streams.{Stream}
 use Rattle.carrier_model.proofs.LaidLinks.{Item, numbers, balanced, AreLinked, item_top, item_links, item_links-length, side_links-are, balanced-linked, all_ids, balanced-ids, item_tree, row, balanced-tree}
@@ -49,6 +50,7 @@ pub record IsShown (d : Directory) (k : ℕ) (s : Slot) : Type 0 where
   pub right : (d.entry k).right ≡ s.right
   pub child : (d.entry k).child ≡ s.child
   pub size : (d.entry k).size ≡ length s.bytes
+  pub class : (d.entry k).class ≡ s.class
 
 abbrev pub AreShown : Directory → ℕ → List Slot → Type 0
 AreShown d k [] = Unit {0}
@@ -154,21 +156,21 @@ HaveBytes streams n (trees.storage name class inside others) = HaveBytes streams
 
 -- what the tree of the directory is
 pub record IsTreeOf (c : Children) (files : FileTree) : Type 0 where
-  pub same : bare c ≡ classless files
+  pub same : bare c ≡ files
   pub names : child_names c ≡ file_names files
   pub have : HaveNames c
 
-storage_is : (d : Directory) (streams : ℕ → Stream) (i : Item) (rest : Children) → is_storage (d.entry i.id) ≡ true → item_tree d streams i rest ≡ storage (record { name = name_of (d.entry i.id); id = i.id; place = d.place i.id }) (tree_of d streams i.below none) rest
+storage_is : (d : Directory) (streams : ℕ → Stream) (i : Item) (rest : Children) → is_storage (d.entry i.id) ≡ true → item_tree d streams i rest ≡ storage (record { name = name_of (d.entry i.id); id = i.id; place = d.place i.id; class = (d.entry i.id).class }) (tree_of d streams i.below none) rest
 storage_is d streams i rest h = cond-true (is_storage (d.entry i.id)) _ _ h
 
-stream_is : (d : Directory) (streams : ℕ → Stream) (i : Item) (rest : Children) → is_storage (d.entry i.id) ≡ false → item_tree d streams i rest ≡ stream (record { name = name_of (d.entry i.id); id = i.id; place = d.place i.id }) (streams i.id) rest
+stream_is : (d : Directory) (streams : ℕ → Stream) (i : Item) (rest : Children) → is_storage (d.entry i.id) ≡ false → item_tree d streams i rest ≡ stream (record { name = name_of (d.entry i.id); id = i.id; place = d.place i.id; class = (d.entry i.id).class }) (streams i.id) rest
 stream_is d streams i rest h = cond-false (is_storage (d.entry i.id)) _ _ h
 
 same_stream : (a b x y : List ℕ) (f g : FileTree) → a ≡ b → x ≡ y → f ≡ g → trees.stream a x f ≡ trees.stream b y g
 same_stream a b x y f g p q r = rw (p, q, r) refl
 
-same_storage : (a b c : List ℕ) (f g h i : FileTree) → a ≡ b → f ≡ g → h ≡ i → trees.storage a c f h ≡ trees.storage b c g i
-same_storage a b c f g h i p q r = rw (p, q, r) refl
+same_storage : (a b c d : List ℕ) (f g h i : FileTree) → a ≡ b → c ≡ d → f ≡ g → h ≡ i → trees.storage a c f h ≡ trees.storage b d g i
+same_storage a b c d f g h i p o q r = rw (p, o, q, r) refl
 
 same_names : (a b : List ℕ) (x y : List (List ℕ)) → a ≡ b → x ≡ y → a ∷ x ≡ b ∷ y
 same_names a b x y p q = rw (p, q) refl
@@ -182,7 +184,7 @@ files-tree d streams depth n ls (trees.stream name x others) shown may bytes =
     let more = files-tree d streams depth (n + 1) (drop 1 ls) others shown.1 may.2 bytes.1 in
     subst (λ c. IsTreeOf c (trees.stream name x others)) (sym (stream_is d streams i rest (of_stream (d.entry n) s.kind).1))
     (record {
-      same = same_stream (name_of (d.entry n)) name (streams n).bytes x (bare rest) (classless others) s.name bytes.0 more.same;
+      same = same_stream (name_of (d.entry n)) name (streams n).bytes x (bare rest) others s.name bytes.0 more.same;
       names = same_names (name_of (d.entry n)) name (child_names rest) (file_names others) s.name more.names;
       have = more.have;
     })
@@ -197,11 +199,11 @@ files-tree d streams depth n ls (trees.storage name class inside others) shown m
     let under = files-tree d streams (depth + 1) (n + 1) links inside split.0 may.4 bytes.0 in
     let more = files-tree d streams depth (n + 1 + entries_in inside) (drop 1 ls) others split.1 may.5 bytes.1 in
     let tree : tree_of d streams (balanced (length items) items) none ≡ inner = balanced-tree (length items) d streams items none (omega arith) in
-    let tag : Tag = record { name = name_of (d.entry n); id = n; place = d.place n } in
+    let tag : Tag = record { name = name_of (d.entry n); id = n; place = d.place n; class = (d.entry n).class } in
     let whole : item_tree d streams i rest ≡ storage tag inner rest = storage_is d streams i rest (of_storage (d.entry n) s.kind).1 ∙ ap (λ c. storage tag c rest) tree in
     subst (λ c. IsTreeOf c (trees.storage name class inside others)) (sym whole)
     (record {
-      same = same_storage (name_of (d.entry n)) name NO_CLASS (bare inner) (classless inside) (bare rest) (classless others) s.name under.same more.same;
+      same = same_storage (name_of (d.entry n)) name (d.entry n).class class (bare inner) inside (bare rest) others s.name s.class under.same more.same;
       names = same_names (name_of (d.entry n)) name (child_names rest) (file_names others) s.name more.names;
       have = (subst AreApart (sym under.names) may.3, under.have, more.have);
     })

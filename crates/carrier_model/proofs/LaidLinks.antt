@@ -182,7 +182,7 @@ balanced-ids (suc levels) (x ∷ xs) few =
 
 abbrev pub item_tree : Directory → (ℕ → Stream) → Item → Children → Children
 item_tree d streams i rest =
-    let tag : Tag = record { name = name_of (d.entry i.id); id = i.id; place = d.place i.id } in
+    let tag : Tag = record { name = name_of (d.entry i.id); id = i.id; place = d.place i.id; class = (d.entry i.id).class } in
     cond (is_storage (d.entry i.id)) (storage tag (tree_of d streams i.below none) rest) (stream tag (streams i.id) rest)
 
 -- the items in their order

@@ -1,4 +1,4 @@
--- A file that is laid out in sectors of 512 bytes is loaded.
+-- A file that is laid out is loaded.
 use Rattle.std.proofs.Common.{◌≡◌, ℕ, zero, suc, ◌+◌, ◌-◌, ◌*◌, ◌/◌, ◌%◌, ◌^◌, ◌<◌, ◌≤◌, List, [], ◌∷◌, ◌++◌, length, replicate, true, false, eqb, refl, sym, ◌∙◌, ap, subst, arith}
 use Rattle.std.specs.List.{range_with_len, flat_map, IsDistinct, AllByRecursion}
 use Rattle.std.proofs.lemmas.Bool.{ne_eqb, cond-false, or_from}
@@ -17,20 +17,21 @@ use Rattle.carrier_model.proofs.LaidChains.{run-chain, runs_lie, bound-is}
 use Rattle.carrier_model.proofs.LaidEntries.{IsSlot, entry_of_slot, entry-lies}
 use Rattle.carrier_model.proofs.LaidFat.{range-distinct, range-below, ranges-apart, IsSmall, fit-replicate, fit-streams, laid_table, table_reads}
 use Rattle.carrier_model.proofs.LaidHeader.{counted, start-small, head_of, header_reads}
-use Rattle.carrier_model.proofs.LaidParts.{IsPlan, AreParts, mini_table-length}
+use Rattle.carrier_model.proofs.LaidParts.{IsPlan, AreParts, mini_table-length, mini_room, entry_room}
 use Rattle.carrier_model.proofs.LaidTables.{table-lies, streams-length}
 use Rattle.carrier_model.proofs.PlaceLaws.{places-from}
 use Rattle.carrier_model.proofs.TableLaws.{all-append}
+use Rattle.carrier_model.proofs.Sizes.{SizeOf, times_some, all_entries, ceil_some, ceil_none, sector_in, place_is}
 
 -- ---- consecutive sectors
 
-pub run-place : (s n k : ℕ) → k < 512 * n → place_in 512 (starts_of 512 (range_with_len s n)) k ≡ sector_start 512 s + k
-run-place s n k below =
-    let there : k / 512 < n = omega (arith, below) in
-    ap (λ m. m + k % 512) (get_or-map-range_with_len (sector_start 512) s n (k / 512) (s + k / 512) 0 there refl) ∙ omega arith
+pub run-place : (z : ℕ) (v : SizeOf z) (s n k : ℕ) → k < z * n → place_in z (starts_of z (range_with_len s n)) k ≡ sector_start z s + k
+run-place z v s n k below =
+    let there = sector_in z v k n below in
+    ap (λ m. m + k % z) (get_or-map-range_with_len (sector_start z) s n (k / z) (s + k / z) 0 there refl) ∙ place_is z v s k
 
-pub run-within : (b : List ℕ) (s n size : ℕ) → size ≤ 512 * n → sector_start 512 s + 512 * n ≤ length b → lie_below (length b) (places_of 512 (starts_of 512 (range_with_len s n)) size) ≡ true
-run-within b s n size fits inside = places-from 512 (starts_of 512 (range_with_len s n)) (length b) size (λ k below. rw (run-place s n k (omega (arith, below, fits))) (omega (arith, below, fits, inside)))
+pub run-within : (z : ℕ) (v : SizeOf z) (b : List ℕ) (s n size : ℕ) → size ≤ z * n → sector_start z s + z * n ≤ length b → lie_below (length b) (places_of z (starts_of z (range_with_len s n)) size) ≡ true
+run-within z v b s n size fits inside = places-from z (starts_of z (range_with_len s n)) (length b) size (λ k below. rw (run-place z v s n k (omega (arith, below, fits))) (omega (arith, below, fits, inside)))
 
 -- ---- lists that rise
 
@@ -59,23 +60,23 @@ rises-on xs a n c is r = record {
 
 -- ---- what is loaded
 
-abbrev pub laid_mini : Plan → List Slot → Mini
-laid_mini p slots = record {
-  table = record { sectors = range_with_len (mini_fat_start p) p.sizes.mini_fat; words = mini_table_of 512 p slots };
+abbrev pub laid_mini : ℕ → Plan → List Slot → Mini
+laid_mini z p slots = record {
+  table = record { sectors = range_with_len (mini_fat_start p) p.sizes.mini_fat; words = mini_table_of z p slots };
   stream = range_with_len (mini_stream_start p) p.sizes.mini_stream;
   size = 64 * p.sizes.mini_sectors;
 }
 
-abbrev pub laid_loaded : Plan → List Slot → Loaded
-laid_loaded p slots = record {
+abbrev pub laid_loaded : ℕ → Plan → List Slot → Loaded
+laid_loaded z p slots = record {
   difat = range_with_len p.fat p.difat;
-  table = laid_table p slots;
+  table = laid_table z p slots;
   directory = range_with_len (directory_start p) p.sizes.directory;
-  mini = laid_mini p slots;
+  mini = laid_mini z p slots;
 }
 
-pub laid-rises : (p : Plan) (slots : List Slot) → Rises (taken_by (laid_loaded p slots)) (long_start p)
-laid-rises p slots =
+pub laid-rises : (z : ℕ) (p : Plan) (slots : List Slot) → Rises (taken_by (laid_loaded z p slots)) (long_start p)
+laid-rises z p slots =
     let L = range_with_len p.fat p.difat in
     let A = range_with_len 0 p.fat in
     let both : Rises (L ++ A) (directory_start p) = record {
@@ -93,89 +94,89 @@ empty-list [] h = refl
 empty-list (x ∷ xs) h = absurd (omega (arith, h))
 
 abbrev mini_from : List ℕ → List ℕ → List ℕ → ℕ → Mini
-mini_from f w s z = record { table = record { sectors = f; words = w }; stream = s; size = z }
+mini_from f w s n = record { table = record { sectors = f; words = w }; stream = s; size = n }
 
 -- without mini sectors there is no mini stream
-mini-nothing : (p : Plan) (slots : List Slot) → IsPlan p slots → p.sizes.mini_sectors ≡ 0 → laid_mini p slots ≡ no_mini
-mini-nothing p slots plan none =
-    let fat : p.sizes.mini_fat ≡ 0 = omega (arith, plan.mini_fat, none) in
-    let stream : p.sizes.mini_stream ≡ 0 = omega (arith, plan.mini_stream, none) in
-    let words : mini_table_of 512 p slots ≡ [] = empty-list (mini_table_of 512 p slots) (mini_table-length p slots plan ∙ omega (arith, fat)) in
-    same (range_with_len (mini_fat_start p) p.sizes.mini_fat) (mini_table_of 512 p slots) (range_with_len (mini_stream_start p) p.sizes.mini_stream) (64 * p.sizes.mini_sectors)
+mini-nothing : (z : ℕ) (v : SizeOf z) (p : Plan) (slots : List Slot) → IsPlan z p slots → p.sizes.mini_sectors ≡ 0 → laid_mini z p slots ≡ no_mini
+mini-nothing z v p slots plan none =
+    let fat : p.sizes.mini_fat ≡ 0 = plan.mini_fat ∙ ceil_none z v (4 * p.sizes.mini_sectors) (omega (arith, none)) in
+    let stream : p.sizes.mini_stream ≡ 0 = plan.mini_stream ∙ ceil_none z v (64 * p.sizes.mini_sectors) (omega (arith, none)) in
+    let words : mini_table_of z p slots ≡ [] = empty-list (mini_table_of z p slots) (mini_table-length z v p slots plan ∙ (ap (λ n. z / 4 * n) fat ∙ omega arith)) in
+    same (range_with_len (mini_fat_start p) p.sizes.mini_fat) (mini_table_of z p slots) (range_with_len (mini_stream_start p) p.sizes.mini_stream) (64 * p.sizes.mini_sectors)
     (ap (range_with_len (mini_fat_start p)) fat) words (ap (range_with_len (mini_stream_start p)) stream) (omega (arith, none))
   where
-    same : (f w s : List ℕ) (z : ℕ) → f ≡ [] → w ≡ [] → s ≡ [] → z ≡ 0 → mini_from f w s z ≡ no_mini
-    same f w s z a b c d = rw (a, b, c, d) refl
+    same : (f w s : List ℕ) (n : ℕ) → f ≡ [] → w ≡ [] → s ≡ [] → n ≡ 0 → mini_from f w s n ≡ no_mini
+    same f w s n a b c d = rw (a, b, c, d) refl
 
-pub fit-mini_table : (p : Plan) (slots : List Slot) → IsPlan p slots → IsSmall p → AreWords (mini_table_of 512 p slots)
-fit-mini_table p slots plan small =
+pub fit-mini_table : (z : ℕ) (v : SizeOf z) (p : Plan) (slots : List Slot) → IsPlan z p slots → IsSmall z p → AreWords (mini_table_of z p slots)
+fit-mini_table z v p slots plan small =
     let inner = streams-length 64 0 (short_streams slots) in
-    all-append (λ w. w < 2 ^ 32) (stream_words 64 0 (short_streams slots)) (replicate (128 * p.sizes.mini_fat - length (stream_words 64 0 (short_streams slots))) FREE)
-    (fit-streams 64 0 (short_streams slots) (omega (arith, inner, plan.mini_sectors, plan.mini_fat, small.sectors)))
-    (fit-replicate (128 * p.sizes.mini_fat - length (stream_words 64 0 (short_streams slots))) FREE (omega arith))
+    all-append (λ w. w < 2 ^ 32) (stream_words 64 0 (short_streams slots)) (replicate (z / 4 * p.sizes.mini_fat - length (stream_words 64 0 (short_streams slots))) FREE)
+    (fit-streams 64 0 (short_streams slots) (omega (arith, inner, plan.mini_sectors, mini_room z v p slots plan, small.bytes)))
+    (fit-replicate (z / 4 * p.sizes.mini_fat - length (stream_words 64 0 (short_streams slots))) FREE (omega arith))
 
 -- entries follow one another
-pub entry-place : (s n id : ℕ) → id < 4 * n → entry_place 512 (range_with_len s n) id ≡ sector_start 512 s + 128 * id
-entry-place s n id below = run-place s n (128 * id) (omega (arith, below))
+pub entry-place : (z : ℕ) (v : SizeOf z) (s n id : ℕ) → id < z / 128 * n → entry_place z (range_with_len s n) id ≡ sector_start z s + 128 * id
+entry-place z v s n id below = run-place z v s n (128 * id) (omega (arith, below, all_entries z v n))
 
 -- the root's entry
-pub root-lies : (p : Plan) (root : Slot) (others : List Slot) (b : List ℕ) → AreParts p (root ∷ others) b → Lies b (sector_start 512 (directory_start p)) (slot_bytes root (start_or_end p.sizes.mini_sectors (mini_stream_start p)) (64 * p.sizes.mini_sectors))
-root-lies p root others b is =
-    let at = sector_start 512 (directory_start p) in
-    lies-front b at (root_bytes p root) (slots_bytes 512 0 (long_start p) others)
-    (lies-front b at (directory_slots 512 p (root ∷ others)) (flat_map (λ k. unused_slot) (range_with_len 0 (4 * p.sizes.directory - length (root ∷ others)))) is.directory)
+pub root-lies : (z : ℕ) (p : Plan) (root : Slot) (others : List Slot) (b : List ℕ) → AreParts z p (root ∷ others) b → Lies b (sector_start z (directory_start p)) (slot_bytes root (start_or_end p.sizes.mini_sectors (mini_stream_start p)) (64 * p.sizes.mini_sectors))
+root-lies z p root others b is =
+    let at = sector_start z (directory_start p) in
+    lies-front b at (root_bytes p root) (slots_bytes z 0 (long_start p) others)
+    (lies-front b at (directory_slots z p (root ∷ others)) (flat_map (λ k. unused_slot) (range_with_len 0 (z / 128 * p.sizes.directory - length (root ∷ others)))) is.directory)
 
-pub root-read : (p : Plan) (root : Slot) (others : List Slot) (b : List ℕ) → AreParts p (root ∷ others) b → IsPlan p (root ∷ others) → IsSmall p → IsSlot root → (directory_in 512 b (range_with_len (directory_start p) p.sizes.directory)).entry 0 ≡ entry_of_slot root (start_or_end p.sizes.mini_sectors (mini_stream_start p)) (64 * p.sizes.mini_sectors)
-root-read p root others b is plan small slot =
-    let some : 0 < 4 * p.sizes.directory = omega (arith, plan.directory) in
-    ap (entry_at b) (entry-place (directory_start p) p.sizes.directory 0 some ∙ omega arith)
-    ∙ entry-lies b (sector_start 512 (directory_start p)) root (start_or_end p.sizes.mini_sectors (mini_stream_start p)) (64 * p.sizes.mini_sectors) slot (start-small p.sizes.mini_sectors (mini_stream_start p) (omega (arith, small.sectors))) (omega (arith, small.sectors, plan.mini_fat)) (root-lies p root others b is)
+pub root-read : (z : ℕ) (v : SizeOf z) (p : Plan) (root : Slot) (others : List Slot) (b : List ℕ) → AreParts z p (root ∷ others) b → IsPlan z p (root ∷ others) → IsSmall z p → IsSlot root → (directory_in z b (range_with_len (directory_start p) p.sizes.directory)).entry 0 ≡ entry_of_slot root (start_or_end p.sizes.mini_sectors (mini_stream_start p)) (64 * p.sizes.mini_sectors)
+root-read z v p root others b is plan small slot =
+    let some : 0 < z / 128 * p.sizes.directory = omega (arith, entry_room z v p (root ∷ others) plan) in
+    ap (entry_at z b) (entry-place z v (directory_start p) p.sizes.directory 0 some ∙ omega arith)
+    ∙ entry-lies z b (sector_start z (directory_start p)) root (start_or_end p.sizes.mini_sectors (mini_stream_start p)) (64 * p.sizes.mini_sectors) slot (start-small p.sizes.mini_sectors (mini_stream_start p) (omega (arith, small.sectors))) (omega (arith, small.bytes, mini_room z v p (root ∷ others) plan)) (root-lies z p root others b is)
 
 started : (count start : ℕ) → 0 < count → start_or_end count start ≡ start
 started count start some = cond-false (eqb count 0) end_word start (ne_eqb count 0 (λ e. absurd (omega (arith, e, some))))
 
-pub mini-reads : (p : Plan) (root : Slot) (others : List Slot) (b : List ℕ) → AreParts p (root ∷ others) b → IsPlan p (root ∷ others) → IsSmall p → IsMini 512 b (laid_table p (root ∷ others)) (head_of p).mini_fat (entry_of_slot root (start_or_end p.sizes.mini_sectors (mini_stream_start p)) (64 * p.sizes.mini_sectors)) (laid_mini p (root ∷ others))
-mini-reads p root others b is plan small =
+pub mini-reads : (z : ℕ) (v : SizeOf z) (p : Plan) (root : Slot) (others : List Slot) (b : List ℕ) → AreParts z p (root ∷ others) b → IsPlan z p (root ∷ others) → IsSmall z p → IsMini z b (laid_table z p (root ∷ others)) (head_of p).mini_fat (entry_of_slot root (start_or_end p.sizes.mini_sectors (mini_stream_start p)) (64 * p.sizes.mini_sectors)) (laid_mini z p (root ∷ others))
+mini-reads z v p root others b is plan small =
     let slots = root ∷ others in
-    let bound = bound-is p slots b is plan in
-    let runs = runs_lie p slots in
-    let n = counted b (p.fat + p.difat + rest_of p.sizes) is.size in
+    let bound = bound-is z v p slots b is plan in
+    let runs = runs_lie z p slots in
+    let n = counted z v b (p.fat + p.difat + rest_of p.sizes) is.size in
     record {
       sized = refl;
-      empty = λ none. mini-nothing p slots plan (omega (arith, none));
+      empty = λ none. mini-nothing z v p slots plan (omega (arith, none));
       some = λ more.
-          let fat : 0 < p.sizes.mini_fat = omega (arith, more, plan.mini_fat) in
-          let stream : 0 < p.sizes.mini_stream = omega (arith, more, plan.mini_stream) in
+          let fat : 0 < p.sizes.mini_fat = subst (λ n. 0 < n) (sym plan.mini_fat) (ceil_some z v (4 * p.sizes.mini_sectors) (omega (arith, more))) in
+          let stream : 0 < p.sizes.mini_stream = subst (λ n. 0 < n) (sym plan.mini_stream) (ceil_some z v (64 * p.sizes.mini_sectors) more) in
           record {
-            chain = subst (λ s. Chain (table_of 512 p slots) s (chain_bound 512 b (table_of 512 p slots)) (range_with_len (mini_fat_start p) p.sizes.mini_fat)) (sym (started p.sizes.mini_fat (mini_fat_start p) fat))
-                (run-chain p.sizes.mini_fat (table_of 512 p slots) (mini_fat_start p) (chain_bound 512 b (table_of 512 p slots)) fat (omega (arith, bound)) runs.mini_fat);
-            whole = range-below (mini_fat_start p) p.sizes.mini_fat (whole_count 512 b) (omega (arith, n.1));
-            words = sym (table-lies b (mini_fat_start p) p.sizes.mini_fat (mini_table_of 512 p slots) (fit-mini_table p slots plan small) (mini_table-length p slots plan) is.mini_table);
+            chain = subst (λ s. Chain (table_of z p slots) s (chain_bound z b (table_of z p slots)) (range_with_len (mini_fat_start p) p.sizes.mini_fat)) (sym (started p.sizes.mini_fat (mini_fat_start p) fat))
+                (run-chain p.sizes.mini_fat (table_of z p slots) (mini_fat_start p) (chain_bound z b (table_of z p slots)) fat (omega (arith, bound)) runs.mini_fat);
+            whole = range-below (mini_fat_start p) p.sizes.mini_fat (whole_count z b) (omega (arith, n.1));
+            words = sym (table-lies z v b (mini_fat_start p) p.sizes.mini_fat (mini_table_of z p slots) (fit-mini_table z v p slots plan small) (mini_table-length z v p slots plan) is.mini_table);
             stream = record {
-              chain = subst (λ s. Chain (table_of 512 p slots) s (chain_bound 512 b (table_of 512 p slots)) (range_with_len (mini_stream_start p) p.sizes.mini_stream)) (sym (started p.sizes.mini_sectors (mini_stream_start p) (omega (arith, more))))
-                  (run-chain p.sizes.mini_stream (table_of 512 p slots) (mini_stream_start p) (chain_bound 512 b (table_of 512 p slots)) stream (omega (arith, bound)) runs.mini_stream);
+              chain = subst (λ s. Chain (table_of z p slots) s (chain_bound z b (table_of z p slots)) (range_with_len (mini_stream_start p) p.sizes.mini_stream)) (sym (started p.sizes.mini_sectors (mini_stream_start p) (omega (arith, more))))
+                  (run-chain p.sizes.mini_stream (table_of z p slots) (mini_stream_start p) (chain_bound z b (table_of z p slots)) stream (omega (arith, bound)) runs.mini_stream);
               enough = omega (arith, plan.mini_stream, length-range_with_len (mini_stream_start p) p.sizes.mini_stream);
-              within = run-within b (mini_stream_start p) p.sizes.mini_stream (64 * p.sizes.mini_sectors) (omega (arith, plan.mini_stream)) (omega (arith, is.size));
+              within = run-within z v b (mini_stream_start p) p.sizes.mini_stream (64 * p.sizes.mini_sectors) (mini_room z v p slots plan) (omega (arith, is.size));
             };
           };
     }
 
 -- so it is loaded
-pub loads : (p : Plan) (root : Slot) (others : List Slot) (b : List ℕ) → AreParts p (root ∷ others) b → IsPlan p (root ∷ others) → IsSmall p → IsSlot root → root.kind ≡ 5 → IsLoaded 512 b (laid_loaded p (root ∷ others))
-loads p root others b is plan small slot kind =
+pub loads : (z : ℕ) (v : SizeOf z) (p : Plan) (root : Slot) (others : List Slot) (b : List ℕ) → AreParts z p (root ∷ others) b → IsPlan z p (root ∷ others) → IsSmall z p → IsSlot root → root.kind ≡ 5 → IsLoaded z b (laid_loaded z p (root ∷ others))
+loads z v p root others b is plan small slot kind =
     let slots = root ∷ others in
-    let some : 0 < p.sizes.directory = omega (arith, plan.directory) in
-    let bound = bound-is p slots b is plan in
-    let runs = runs_lie p slots in
-    let n = counted b (p.fat + p.difat + rest_of p.sizes) is.size in
-    let entry = root-read p root others b is plan small slot in
+    let some : 0 < p.sizes.directory = subst (λ n. 0 < n) (sym plan.directory) (ceil_some z v (128 * length slots) (omega arith)) in
+    let bound = bound-is z v p slots b is plan in
+    let runs = runs_lie z p slots in
+    let n = counted z v b (p.fat + p.difat + rest_of p.sizes) is.size in
+    let entry = root-read z v p root others b is plan small slot in
     record {
       head = head_of p;
-      header = header_reads p slots b (omega (arith, small.sectors)) (omega (arith, plan.enough, some)) is;
-      table = table_reads p slots b is plan small;
-      directory = run-chain p.sizes.directory (table_of 512 p slots) (directory_start p) (chain_bound 512 b (table_of 512 p slots)) some (omega (arith, bound)) runs.directory;
+      header = header_reads z v p slots b (omega (arith, small.sectors)) (times_some (z / 4) (p.fat + p.difat + rest_of p.sizes) p.fat (omega (arith, some)) plan.enough) is;
+      table = table_reads z v p slots b is plan small;
+      directory = run-chain p.sizes.directory (table_of z p slots) (directory_start p) (chain_bound z b (table_of z p slots)) some (omega (arith, bound)) runs.directory;
       some = omega (arith, some, length-range_with_len (directory_start p) p.sizes.directory);
-      whole = range-below (directory_start p) p.sizes.directory (whole_count 512 b) (omega (arith, n.1));
+      whole = range-below (directory_start p) p.sizes.directory (whole_count z b) (omega (arith, n.1));
       root = ap (λ (e : Entry). e.kind) entry ∙ kind;
-      mini = subst (λ (e : Entry). IsMini 512 b (laid_table p slots) (head_of p).mini_fat e (laid_mini p slots)) (sym entry) (mini-reads p root others b is plan small);
+      mini = subst (λ (e : Entry). IsMini z b (laid_table z p slots) (head_of p).mini_fat e (laid_mini z p slots)) (sym entry) (mini-reads z v p root others b is plan small);
     }

@@ -1,11 +1,11 @@
 -- The entries of a tree of storages and streams that may be written.
-use Rattle.std.proofs.Common.{ℕ, zero, suc, ◌+◌, ◌<◌, ◌≤◌, ◌^◌, List, [], ◌∷◌, length, get_or, take, drop, refl, sym, subst, arith, inl, inr}
+use Rattle.std.proofs.Common.{◌≡◌, ℕ, zero, suc, ◌+◌, ◌<◌, ◌≤◌, ◌^◌, List, [], ◌∷◌, length, get_or, take, drop, refl, sym, subst, arith, inl, inr}
 use Rattle.std.specs.Prelude.{codes}
 use Rattle.std.specs.List.{AllByRecursion}
 use Rattle.std.proofs.lemmas.List.{take-append-drop}
 use Rattle.carrier_model.specs.FileTrees as trees
 use Rattle.carrier_model.specs.FileTrees.{FileTree, entries_in}
-use Rattle.carrier_model.specs.Layout.{Slot, ROOT, ROOT_CLASS, middle, top_of, side_links, links_of_siblings, sibling_numbers, first_links, slots_from}
+use Rattle.carrier_model.specs.Layout.{Slot, ROOT, middle, top_of, side_links, links_of_siblings, sibling_numbers, first_links, slots_from}
 use Rattle.carrier_model.specs.LayoutHolds.{MayBeWrittenAt}
 use Rattle.carrier_model.specs.Links.{no_link}
 use Rattle.carrier_model.proofs.ChildLaws.{each-append, each-split}
@@ -84,15 +84,15 @@ slots-good depth n ls (trees.storage name class inside others) pairs few may =
     )
 
 -- the root's entry
-abbrev pub root_slot : FileTree → Slot
-root_slot files = record { name = codes "Root Entry"; class = ROOT_CLASS; kind = ROOT; left = no_link; right = no_link; child = top_of (sibling_numbers 1 files); bytes = [] }
+abbrev pub root_slot : List ℕ → FileTree → Slot
+root_slot class files = record { name = codes "Root Entry"; class = class; kind = ROOT; left = no_link; right = no_link; child = top_of (sibling_numbers 1 files); bytes = [] }
 
 abbrev pub other_slots : FileTree → List Slot
 other_slots files = slots_from 1 (links_of_siblings (sibling_numbers 1 files)) files
 
-pub root-good : (files : FileTree) → 1 + entries_in files ≤ 2 ^ 32 → IsSlot (root_slot files)
-root-good files few = record {
-  fit = record { name = omega arith; class = refl };
+pub root-good : (class : List ℕ) (files : FileTree) → length class ≡ 16 → 1 + entries_in files ≤ 2 ^ 32 → IsSlot (root_slot class files)
+root-good class files whole few = record {
+  fit = record { name = omega arith; class = whole };
   units = (omega arith, (omega arith, (omega arith, (omega arith, (omega arith, (omega arith, (omega arith, (omega arith, (omega arith, (omega arith, tt))))))))));
   kind = omega arith;
   left = omega arith;

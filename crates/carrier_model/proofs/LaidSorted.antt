@@ -8,14 +8,16 @@ use Rattle.std.proofs.lemmas.Cmp.{nat_list_eq_equiv}
 use Rattle.std.proofs.lemmas.List.Sorted.{IsPermutation-refl, IsPermutation-sym, IsPermutation-trans, IsPermutation-cons, IsPermutation-middle, IsPermutation-map}
 use Rattle.std.proofs.lemmas.Map.Keys.{IsDistinct-IsPermutation}
 use Rattle.carrier_model.specs.FileTrees as trees
-use Rattle.carrier_model.specs.FileTrees.{FileTree, sibling_cmp, with_stream, with_storage, sorted}
+use Rattle.carrier_model.specs.FileTrees.{FileTree, sibling_cmp, with_stream, with_storage, sorted, file_names, IsFileName}
 use Rattle.carrier_model.specs.Files.{folded}
 use Rattle.carrier_model.specs.Holds.{AreApart}
 use Rattle.carrier_model.specs.Layout.{layout}
-use Rattle.carrier_model.specs.LayoutHolds.{file_names, IsFileName, MayBeWrittenAt, MayBeWritten, HoldsLaidOut}
+use Rattle.carrier_model.specs.LayoutHolds.{MayBeWrittenAt, MayBeWritten, HoldsLaidOut}
 use Rattle.carrier_model.specs.Sorted.{choose}
-use Rattle.carrier_model.specs.Targets.{MOST_BYTES}
+use Rattle.carrier_model.proofs.HoldsLaws.{file_holds}
+use Rattle.carrier_model.specs.Bytes.{MOST_BYTES}
 use Rattle.carrier_model.proofs.LaidHolds.{laid_plan, found_files, laid_holds}
+use Rattle.carrier_model.proofs.Sizes.{SizeOf, is_known}
 
 chosen : (P : FileTree → Type 0) (o : Ordering) (a b c : FileTree) → P a → P b → P c → P (choose o a b c)
 chosen P Less a b c x y z = x
@@ -80,7 +82,7 @@ sorted-may depth (trees.storage name class inside others) may =
     storage-may depth name class (sorted inside) (sorted others) may.0 may.1 may.2 (sorted-apart inside may.3) (sorted-may (depth + 1) inside may.4) (sorted-may depth others may.5)
 
 -- what is laid out is found again
-pub layouts-found : (files : FileTree) → MayBeWritten files → length (layout 512 files) ≤ MOST_BYTES → HoldsLaidOut 512 files
-layouts-found files may short =
-    let held = laid_holds (sorted files) (sorted-apart files may.0, sorted-may 1 files may.1) short in
-    record { found = found_files (laid_plan (sorted files)) (sorted files) (layout 512 files); holds = held.0; same = held.1 }
+pub layouts-found : (z : ℕ) (v : SizeOf z) (class : List ℕ) (files : FileTree) → length class ≡ 16 → MayBeWritten files → length (layout z class files) ≤ MOST_BYTES → HoldsLaidOut z class files
+layouts-found z v class files whole may short =
+    let held = laid_holds z v class (sorted files) whole (sorted-apart files may.0, sorted-may 1 files may.1) short in
+    record { found = found_files z (laid_plan z class (sorted files)) class (sorted files) (layout z class files); holds = file_holds z (layout z class files) (found_files z (laid_plan z class (sorted files)) class (sorted files) (layout z class files)) (is_known z v) held.0; root = held.1; same = held.2 }

@@ -8,21 +8,22 @@ use Rattle.carrier_model.proofs.LaidBytes.{Lies, lies-front, lies-back}
 use Rattle.carrier_model.proofs.LaidEntries.{IsSlot, entry_of_slot, entry-lies}
 use Rattle.carrier_model.proofs.LaidParts.{slot-length, filled-short, filled-long}
 use Rattle.carrier_model.proofs.LaidTables.{run-length}
+use Rattle.carrier_model.proofs.Sizes.{SizeOf}
 
 -- how many pieces a stream takes of the mini stream, and how many sectors of its own
 abbrev pub short_need : List ℕ → ℕ
 short_need x = cond (is_short x) (pieces 64 x) 0
 
-abbrev pub long_need : List ℕ → ℕ
-long_need x = cond (is_long x) (pieces 512 x) 0
+abbrev pub long_need : ℕ → List ℕ → ℕ
+long_need z x = cond (is_long x) (pieces z x) 0
 
 abbrev pub short_sum : List Slot → ℕ
 short_sum [] = 0
 short_sum (s ∷ slots) = short_need s.bytes + short_sum slots
 
-abbrev pub long_sum : List Slot → ℕ
-long_sum [] = 0
-long_sum (s ∷ slots) = long_need s.bytes + long_sum slots
+abbrev pub long_sum : ℕ → List Slot → ℕ
+long_sum z [] = 0
+long_sum z (s ∷ slots) = long_need z s.bytes + long_sum z slots
 
 abbrev sum-kept : (t : Bool) (n : ℕ) (x : List ℕ) (rest : List (List ℕ)) → Type 0
 sum-kept t n x rest = all_pieces n (cond t (x ∷ rest) rest) ≡ cond t (pieces n x) 0 + all_pieces n rest
@@ -35,16 +36,16 @@ pub short-sum : (slots : List Slot) → all_pieces 64 (short_streams slots) ≡ 
 short-sum [] = refl
 short-sum (s ∷ slots) = kept (is_short s.bytes) 64 s.bytes (short_streams slots) ∙ ap (λ k. short_need s.bytes + k) (short-sum slots)
 
-pub long-sum : (slots : List Slot) → all_pieces 512 (long_streams slots) ≡ long_sum slots
-long-sum [] = refl
-long-sum (s ∷ slots) = kept (is_long s.bytes) 512 s.bytes (long_streams slots) ∙ ap (λ k. long_need s.bytes + k) (long-sum slots)
+pub long-sum : (z : ℕ) (slots : List Slot) → all_pieces z (long_streams slots) ≡ long_sum z slots
+long-sum z [] = refl
+long-sum z (s ∷ slots) = kept (is_long s.bytes) z s.bytes (long_streams slots) ∙ ap (λ k. long_need z s.bytes + k) (long-sum z slots)
 
 -- where the next short and the next long stream begin
 abbrev pub mini_next : ℕ → Slot → ℕ
 mini_next mini s = cond (is_short s.bytes) (mini + pieces 64 s.bytes) mini
 
-abbrev pub long_next : ℕ → Slot → ℕ
-long_next long s = cond (is_long s.bytes) (long + pieces 512 s.bytes) long
+abbrev pub long_next : ℕ → ℕ → Slot → ℕ
+long_next z long s = cond (is_long s.bytes) (long + pieces z s.bytes) long
 
 next-is : (t : Bool) (at n : ℕ) → cond t (at + n) at ≡ at + cond t n 0
 next-is true at n = refl
@@ -53,8 +54,8 @@ next-is false at n = sym (add-zero at)
 pub mini_next-is : (mini : ℕ) (s : Slot) → mini_next mini s ≡ mini + short_need s.bytes
 mini_next-is mini s = next-is (is_short s.bytes) mini (pieces 64 s.bytes)
 
-pub long_next-is : (long : ℕ) (s : Slot) → long_next long s ≡ long + long_need s.bytes
-long_next-is long s = next-is (is_long s.bytes) long (pieces 512 s.bytes)
+pub long_next-is : (z : ℕ) (long : ℕ) (s : Slot) → long_next z long s ≡ long + long_need z s.bytes
+long_next-is z long s = next-is (is_long s.bytes) long (pieces z s.bytes)
 
 -- ---- where streams lie
 
@@ -95,19 +96,19 @@ laid-step size T b false first from x rest long l = record {
     none size from = ap (λ k. from + k) (mul-zero size) ∙ add-zero from
 
 -- all streams of some entries
-abbrev pub AreLaid : List ℕ → List ℕ → List ℕ → ℕ → ℕ → ℕ → ℕ → List Slot → Type 0
-AreLaid M T b mini from long at [] = Unit {0}
-AreLaid M T b mini from long at (s ∷ slots) =
+abbrev pub AreLaid : ℕ → List ℕ → List ℕ → List ℕ → ℕ → ℕ → ℕ → ℕ → List Slot → Type 0
+AreLaid z M T b mini from long at [] = Unit {0}
+AreLaid z M T b mini from long at (s ∷ slots) =
     (is_short s.bytes ≡ true → Stands 64 M b mini from s.bytes)
-    × (is_long s.bytes ≡ true → Stands 512 T b long at s.bytes)
-    × AreLaid M T b (mini_next mini s) (from + 64 * short_need s.bytes) (long_next long s) (at + 512 * long_need s.bytes) slots
+    × (is_long s.bytes ≡ true → Stands z T b long at s.bytes)
+    × AreLaid z M T b (mini_next mini s) (from + 64 * short_need s.bytes) (long_next z long s) (at + z * long_need z s.bytes) slots
 
-pub streams-laid : (M T b : List ℕ) (mini from long at : ℕ) (slots : List Slot) → Laid 64 M b mini from (short_streams slots) → Laid 512 T b long at (long_streams slots) → AreLaid M T b mini from long at slots
-streams-laid M T b mini from long at [] short long_laid = tt
-streams-laid M T b mini from long at (s ∷ slots) short long_laid =
+pub streams-laid : (z : ℕ) (v : SizeOf z) (M T b : List ℕ) (mini from long at : ℕ) (slots : List Slot) → Laid 64 M b mini from (short_streams slots) → Laid z T b long at (long_streams slots) → AreLaid z M T b mini from long at slots
+streams-laid z v M T b mini from long at [] short long_laid = tt
+streams-laid z v M T b mini from long at (s ∷ slots) short long_laid =
     let a = laid-step 64 M b (is_short s.bytes) mini from s.bytes (short_streams slots) (filled-short s.bytes) short in
-    let c = laid-step 512 T b (is_long s.bytes) long at s.bytes (long_streams slots) (filled-long s.bytes) long_laid in
-    (a.here, c.here, streams-laid M T b (mini_next mini s) (from + 64 * short_need s.bytes) (long_next long s) (at + 512 * long_need s.bytes) slots a.next c.next)
+    let c = laid-step z T b (is_long s.bytes) long at s.bytes (long_streams slots) (filled-long z v s.bytes) long_laid in
+    (a.here, c.here, streams-laid z v M T b (mini_next mini s) (from + 64 * short_need s.bytes) (long_next z long s) (at + z * long_need z s.bytes) slots a.next c.next)
 
 -- ---- the entries
 
@@ -117,9 +118,9 @@ pub record IsGood (s : Slot) : Type 0 where
   pub size : length s.bytes < 2 ^ 28
   pub kind : (s.kind ≡ 2) ⊎ ((s.kind ≡ 1) × (s.bytes ≡ []))
 
-abbrev pub AreEntries : List ℕ → ℕ → ℕ → ℕ → List Slot → Type 0
-AreEntries b o mini long [] = Unit {0}
-AreEntries b o mini long (s ∷ slots) = (entry_at b o ≡ entry_of_slot s (start_of_slot mini long s) (length s.bytes)) × AreEntries b (o + 128) (mini_next mini s) (long_next long s) slots
+abbrev pub AreEntries : ℕ → List ℕ → ℕ → ℕ → ℕ → List Slot → Type 0
+AreEntries z b o mini long [] = Unit {0}
+AreEntries z b o mini long (s ∷ slots) = (entry_at z b o ≡ entry_of_slot s (start_of_slot mini long s) (length s.bytes)) × AreEntries z b (o + 128) (mini_next mini s) (long_next z long s) slots
 
 pub start-fits : (mini long : ℕ) (s : Slot) → mini < 2 ^ 32 → long < 2 ^ 32 → start_of_slot mini long s < 2 ^ 32
 start-fits mini long s m l = either (eqb s.kind 1) (is_short s.bytes) (is_long s.bytes)
@@ -130,15 +131,15 @@ start-fits mini long s m l = either (eqb s.kind 1) (is_short s.bytes) (is_long s
     either false false true = l
     either false false false = omega arith
 
-pub entries-lie : (b : List ℕ) (o mini long : ℕ) (slots : List Slot) → AllByRecursion IsGood slots → mini + short_sum slots < 2 ^ 32 → long + long_sum slots < 2 ^ 32 → Lies b o (slots_bytes 512 mini long slots) → AreEntries b o mini long slots
-entries-lie b o mini long [] good m l lies = tt
-entries-lie b o mini long (s ∷ slots) good m l lies =
+pub entries-lie : (z : ℕ) (b : List ℕ) (o mini long : ℕ) (slots : List Slot) → AllByRecursion IsGood slots → mini + short_sum slots < 2 ^ 32 → long + long_sum z slots < 2 ^ 32 → Lies b o (slots_bytes z mini long slots) → AreEntries z b o mini long slots
+entries-lie z b o mini long [] good m l lies = tt
+entries-lie z b o mini long (s ∷ slots) good m l lies =
     let g = good.0 in
     let start = start_of_slot mini long s in
-    let rest = slots_bytes 512 (mini_next mini s) (long_next long s) slots in
+    let rest = slots_bytes z (mini_next mini s) (long_next z long s) slots in
     let m2 = mini_next-is mini s in
-    let l2 = long_next-is long s in (
-      entry-lies b o s start (length s.bytes) g.slot (start-fits mini long s (omega (arith, m)) (omega (arith, l))) (omega (arith, g.size)) (lies-front b o (slot_bytes s start (length s.bytes)) rest lies),
-      entries-lie b (o + 128) (mini_next mini s) (long_next long s) slots good.1 (omega (arith, m, m2)) (omega (arith, l, l2))
+    let l2 = long_next-is z long s in (
+      entry-lies z b o s start (length s.bytes) g.slot (start-fits mini long s (omega (arith, m)) (omega (arith, l))) (omega (arith, g.size)) (lies-front b o (slot_bytes s start (length s.bytes)) rest lies),
+      entries-lie z b (o + 128) (mini_next mini s) (long_next z long s) slots good.1 (omega (arith, m, m2)) (omega (arith, l, l2))
           (lies-back b o (o + 128) (slot_bytes s start (length s.bytes)) rest (ap (λ k. o + k) (sym (slot-length s start (length s.bytes) g.slot.fit))) lies),
     )

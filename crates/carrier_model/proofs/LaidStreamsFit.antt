@@ -10,22 +10,23 @@ use Rattle.carrier_model.specs.FileTrees.{FileTree, sibling_cmp, with_stream, wi
 use Rattle.carrier_model.specs.Layout.{Slot, Plan, is_long, pieces, long_streams, slots_of, slots_from, plan_of, layout, file_bytes, header_bytes, table_of, mini_table_of, difat_bytes, directory_bytes, words_bytes, mini_stream_bytes, long_bytes, links_of_siblings, sibling_numbers}
 use Rattle.carrier_model.specs.ReadBack.{StreamsFit}
 use Rattle.carrier_model.specs.Sorted.{choose}
-use Rattle.carrier_model.specs.Targets.{MOST_BYTES}
+use Rattle.carrier_model.specs.Bytes.{MOST_BYTES}
 use Rattle.carrier_model.proofs.ChildLaws.{each-split}
 use Rattle.carrier_model.proofs.LaidParts.{all-long, header-length}
 use Rattle.carrier_model.proofs.LaidStreams.{long_need, long_sum, long-sum}
+use Rattle.carrier_model.proofs.Sizes.{SizeOf, size_least, ceil_holds}
 
 -- ---- the streams of entries
 
 abbrev Few : Slot → Type 0
 Few s = length s.bytes < 2 ^ 28
 
-slots-few : (slots : List Slot) → 512 + 512 * long_sum slots ≤ 268435456 → AllByRecursion Few slots
-slots-few [] h = tt
-slots-few (s ∷ slots) h =
-    let rest = slots-few slots (omega (arith, h)) in
+slots-few : (z : ℕ) (v : SizeOf z) (slots : List Slot) → z + z * long_sum z slots ≤ 268435456 → AllByRecursion Few slots
+slots-few z v [] h = tt
+slots-few z v (s ∷ slots) h =
+    let rest = slots-few z v slots (omega (arith, h)) in
     elim (cases_Bool (is_long s.bytes)) [
-      | inl big ↦ let need : long_need s.bytes ≡ pieces 512 s.bytes = cond-true (is_long s.bytes) (pieces 512 s.bytes) 0 big in (omega (arith, h, need), rest)
+      | inl big ↦ let need : long_need z s.bytes ≡ pieces z s.bytes = cond-true (is_long s.bytes) (pieces z s.bytes) 0 big in (omega (arith, h, ap (λ n. z * n) need, ceil_holds z v (length s.bytes), size_least z v), rest)
       | inr little ↦ (omega (arith, leb-false 4096 (length s.bytes) little), rest)
     ]
 
@@ -33,16 +34,16 @@ slots-few (s ∷ slots) h =
 behind : (x y : List ℕ) → length y ≤ length (x ++ y)
 behind x y = rw (length-append x y) (omega arith)
 
-long-within : (p : Plan) (slots : List Slot) → 512 + 512 * long_sum slots ≤ length (file_bytes 512 p slots)
-long-within p slots =
-    let t = words_bytes (table_of 512 p slots) in
-    let l = difat_bytes 512 p in
-    let d = directory_bytes 512 p slots in
-    let m = words_bytes (mini_table_of 512 p slots) in
-    let s = mini_stream_bytes 512 slots in
-    let x = long_bytes 512 slots in
-    let long : length x ≡ 512 * long_sum slots = all-long (long_streams slots) ∙ ap (λ k. 512 * k) (long-sum slots) in
-    let whole : length (file_bytes 512 p slots) ≡ 512 + length (t ++ (l ++ (d ++ (m ++ (s ++ x))))) = length-append (header_bytes 512 p) (t ++ (l ++ (d ++ (m ++ (s ++ x))))) ∙ ap (λ k. k + length (t ++ (l ++ (d ++ (m ++ (s ++ x)))))) (header-length p) in
+long-within : (z : ℕ) (v : SizeOf z) (p : Plan) (slots : List Slot) → z + z * long_sum z slots ≤ length (file_bytes z p slots)
+long-within z v p slots =
+    let t = words_bytes (table_of z p slots) in
+    let l = difat_bytes z p in
+    let d = directory_bytes z p slots in
+    let m = words_bytes (mini_table_of z p slots) in
+    let s = mini_stream_bytes z slots in
+    let x = long_bytes z slots in
+    let long : length x ≡ z * long_sum z slots = all-long z v (long_streams slots) ∙ ap (λ k. z * k) (long-sum z slots) in
+    let whole : length (file_bytes z p slots) ≡ z + length (t ++ (l ++ (d ++ (m ++ (s ++ x))))) = length-append (header_bytes z p) (t ++ (l ++ (d ++ (m ++ (s ++ x))))) ∙ ap (λ k. k + length (t ++ (l ++ (d ++ (m ++ (s ++ x)))))) (header-length z v p) in
     omega (arith, whole, long, behind t (l ++ (d ++ (m ++ (s ++ x)))), behind l (d ++ (m ++ (s ++ x))), behind d (m ++ (s ++ x)), behind m (s ++ x), behind s x)
 
 -- ---- the streams of a tree
@@ -85,9 +86,9 @@ sorted-few (trees.stream name bytes others) h = let p = stream-few name bytes (s
 sorted-few (trees.storage name class inside others) h = let p = storage-few name class (sorted inside) (sorted others) h in (sorted-few inside p.0, sorted-few others p.1)
 
 -- so a file that is not too long has no stream that is
-pub streams-fit : (files : FileTree) → length (layout 512 files) ≤ MOST_BYTES → StreamsFit files
-streams-fit files short =
-    let slots = slots_of (sorted files) in
-    let within = long-within (plan_of 512 slots) slots in
-    let all = slots-few slots (omega (arith, within, short)) in
+pub streams-fit : (z : ℕ) (v : SizeOf z) (class : List ℕ) (files : FileTree) → length (layout z class files) ≤ MOST_BYTES → StreamsFit files
+streams-fit z v class files short =
+    let slots = slots_of class (sorted files) in
+    let within = long-within z v (plan_of z slots) slots in
+    let all = slots-few z v slots (omega (arith, within, short)) in
     sorted-few files (files-few 1 (links_of_siblings (sibling_numbers 1 (sorted files))) (sorted files) all.1)

@@ -1,5 +1,5 @@
--- The table of a file that is laid out in sectors of 512 bytes.
-use Rattle.std.proofs.Common.{◌≡◌, ℕ, zero, suc, ◌+◌, ◌*◌, ◌<◌, ◌≤◌, List, [], ◌∷◌, ◌++◌, length, map, take, drop, true, false, refl, sym, ◌∙◌, ap, subst, arith, inl, inr}
+-- The table of a file that is laid out.
+use Rattle.std.proofs.Common.{◌≡◌, ℕ, zero, suc, ◌+◌, ◌*◌, ◌/◌, ◌<◌, ◌≤◌, List, [], ◌∷◌, ◌++◌, length, map, take, drop, true, false, refl, sym, ◌∙◌, ap, subst, arith, inl, inr}
 use Rattle.std.specs.List.{range_with_len}
 use Rattle.std.proofs.lemmas.Bool.{cases_Bool, leb-true, le-leb, cond-true, cond-false}
 use Rattle.std.proofs.lemmas.List.{length-append, length-take, length-drop, ext_get_or, take-append-drop}
@@ -11,6 +11,7 @@ use Rattle.carrier_model.specs.Layout.{words_bytes, run_words, stream_words, pie
 use Rattle.carrier_model.specs.Sectors.{u32_of, sector_start, sector_words, table_words}
 use Rattle.carrier_model.specs.Tables.{difat_count}
 use Rattle.carrier_model.proofs.LaidBytes.{Lies, lies-front, lies-back, AreWords, word-lies}
+use Rattle.carrier_model.proofs.Sizes.{SizeOf, words_fill, more_suffice}
 
 pub words-length : (ws : List ℕ) → length (words_bytes ws) ≡ 4 * length ws
 words-length [] = refl
@@ -29,20 +30,20 @@ fit-split [] ys h = (tt, h)
 fit-split (x ∷ xs) ys h = let more = fit-split xs ys h.1 in ((h.0, more.0), more.1)
 
 -- words of whole sectors, one after another
-pub table-lies : (b : List ℕ) (s n : ℕ) (ws : List ℕ) → AreWords ws → length ws ≡ 128 * n → Lies b (sector_start 512 s) (words_bytes ws) → table_words 512 b (range_with_len s n) ≡ ws
-table-lies b s zero [] fit long l = refl
-table-lies b s zero (w ∷ ws) fit long l = absurd (omega arith)
-table-lies b s (suc n) ws fit long l =
-    let front = take 128 ws in
-    let back = drop 128 ws in
-    let whole : front ++ back ≡ ws = take-append-drop 128 ws in
+pub table-lies : (z : ℕ) (v : SizeOf z) (b : List ℕ) (s n : ℕ) (ws : List ℕ) → AreWords ws → length ws ≡ z / 4 * n → Lies b (sector_start z s) (words_bytes ws) → table_words z b (range_with_len s n) ≡ ws
+table-lies z v b s zero [] fit long l = refl
+table-lies z v b s zero (w ∷ ws) fit long l = absurd (omega arith)
+table-lies z v b s (suc n) ws fit long l =
+    let front = take (z / 4) ws in
+    let back = drop (z / 4) ws in
+    let whole : front ++ back ≡ ws = take-append-drop (z / 4) ws in
     let parts = fit-split front back (subst AreWords (sym whole) fit) in
-    let front_long : length front ≡ 128 = simp length-take (omega (arith, long)) in
-    let back_long : length back ≡ 128 * n = simp length-drop (omega (arith, long)) in
-    let both : Lies b (sector_start 512 s) (words_bytes front ++ words_bytes back) = subst (Lies b (sector_start 512 s)) (ap words_bytes (sym whole) ∙ flat_map-append le32 front back) l in
-    let one : sector_words 512 b s ≡ front = words-lie b (sector_start 512 s) 128 front parts.0 front_long (lies-front b _ _ _ both) in
-    let rest = table-lies b (s + 1) n back parts.1 back_long (lies-back b (sector_start 512 s) (sector_start 512 (s + 1)) (words_bytes front) (words_bytes back) (rw (words-length front, front_long) (omega arith)) both) in
-    ap (λ x. x ++ table_words 512 b (range_with_len (s + 1) n)) one ∙ (ap (λ y. front ++ y) rest ∙ whole)
+    let front_long : length front ≡ z / 4 = simp length-take (omega (arith, long)) in
+    let back_long : length back ≡ z / 4 * n = simp length-drop (omega (arith, long)) in
+    let both : Lies b (sector_start z s) (words_bytes front ++ words_bytes back) = subst (Lies b (sector_start z s)) (ap words_bytes (sym whole) ∙ flat_map-append le32 front back) l in
+    let one : sector_words z b s ≡ front = words-lie b (sector_start z s) (z / 4) front parts.0 front_long (lies-front b _ _ _ both) in
+    let rest = table-lies z v b (s + 1) n back parts.1 back_long (lies-back b (sector_start z s) (sector_start z (s + 1)) (words_bytes front) (words_bytes back) (rw (words-length front, front_long) (omega (arith, (words_fill z v).0))) both) in
+    ap (λ x. x ++ table_words z b (range_with_len (s + 1) n)) one ∙ (ap (λ y. front ++ y) rest ∙ whole)
 
 -- how many words runs have
 pub run-length : (start n : ℕ) → length (run_words start n) ≡ n
@@ -71,8 +72,8 @@ first-suffices (suc more) z rest f g low high is =
     differ : false ≡ true → ⊥
     differ e = absurd (cc)
 
-pub fat-suffices : (rest : ℕ) → fat_count 512 rest + difat_count 512 (fat_count 512 rest) + rest ≤ 128 * fat_count 512 rest
-fat-suffices rest =
+pub fat-suffices : (z : ℕ) (v : SizeOf z) (rest : ℕ) → fat_count z rest + difat_count z (fat_count z rest) + rest ≤ z / 4 * fat_count z rest
+fat-suffices z v rest =
     let g = rest + 1 in
-    let enough : suffices 512 rest g ≡ true = le-leb (g + difat_count 512 g + rest) (128 * g) (omega arith) in
-    leb-true _ _ (first-suffices (rest + 1) 512 rest 0 g (omega arith) (omega arith) enough)
+    let enough : suffices z rest g ≡ true = le-leb (g + difat_count z g + rest) (z / 4 * g) (more_suffice z v rest) in
+    leb-true _ _ (first-suffices (rest + 1) z rest 0 g (omega arith) (omega arith) enough)

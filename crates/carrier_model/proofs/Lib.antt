@@ -57,11 +57,17 @@ pub mod ReadFiles
 pub mod ReadLists
 pub mod ReadMsg
 pub mod ReadMsgMessage
+pub mod ReadTags
 pub mod ReadTnef
 pub mod ReadValues
 pub mod Reading
+pub mod Sizes
 pub mod SortedElements
 pub mod SortedLists
+pub mod StoreLaws
+pub mod StoreOrder
+pub mod StoreRead
+pub mod StoreWritten
 pub mod Stream
 pub mod TableLaws
 pub mod TnefLists

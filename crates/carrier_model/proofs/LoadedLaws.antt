@@ -181,7 +181,7 @@ load_ok z b s is =
     let pt = bind_ok (tables_of z b) _ s is in
     let t = pt.0 in
     let o = entry_place z t.directory 0 in
-    let root = entry_at b o in
+    let root = entry_at z b o in
     let pk = check_ok (eqb root.kind 5) BAD_ENTRY_TYPE (o + 66) (λ u. mini_of z b t.table t.head.mini_fat root.start root.size o (taken_first t) >>= λ m. Ok (record { difat = t.difat; table = t.table; directory = t.directory; mini = m })) s pt.2 in
     let pm = bind_ok (mini_of z b t.table t.head.mini_fat root.start root.size o (taken_first t)) _ s pk.1 in
     let m = pm.0 in
@@ -207,7 +207,7 @@ load_from z b s h short is apart =
     let few = few_words z b s.table.words h short in
     let t : Tables = record { head = is.head; difat = s.difat; table = s.table; directory = s.directory } in
     let o = entry_place z t.directory 0 in
-    let root = entry_at b o in
+    let root = entry_at z b o in
     let two = distinct-split (taken_first t ++ s.mini.table.sectors) s.mini.stream apart in
     let one = distinct-split (taken_first t) s.mini.table.sectors two.0 in
     let a : AreTables z b t = record { header = is.header; table = is.table; directory = is.directory; some = is.some; whole = is.whole; apart = one.0 } in

@@ -1,22 +1,23 @@
 -- The message that a .msg file gives is the one that it means.
-use Rattle.std.proofs.Common.{◌≡◌, ℕ, zero, suc, List, Result, Ok, Err, Option, Some, None, refl, sym, ap, ◌∙◌}
-use Rattle.std.specs.Prelude.{is_some, IsTrue, length, ◌≤◌}
+use Rattle.std.proofs.Common.{◌≡◌, ℕ, zero, suc, List, Result, Ok, Err, Option, Some, None, refl, sym, ap, ◌∙◌, Bool, true, false}
+use Rattle.std.specs.Prelude.{length, ◌≤◌}
 use Rattle.carrier_model.specs.Trail.{Fault, IsExact}
-use Rattle.carrier_model.specs.Reasons.{OLE_STORAGE, MISSING_STORAGE}
+use Rattle.carrier_model.specs.Reasons.{MISSING_STORAGE}
 use Rattle.carrier_model.specs.Outcomes.{mapped}
 use Rattle.carrier_model.specs.Turns.{each, found}
-use Rattle.carrier_model.specs.Files.{Files, open_of}
-use Rattle.carrier_model.specs.Sectors.{is_size}
-use Rattle.carrier_model.proofs.HoldsLaws.{open_sound, holds_opened}
+use Rattle.carrier_model.specs.Files.{Files, open_file}
+use Rattle.carrier_model.specs.Tables.{sector_size}
+use Rattle.carrier_model.proofs.HoldsLaws.{size_known, open_sound, holds_opened}
 use Rattle.carrier_model.specs.Lookups.{stream_named, storage_named}
 use Rattle.carrier_model.specs.TnefLists.{ATTACHED_OBJECT}
-use Rattle.carrier_model.specs.TnefMessage.{Meaning, GREATEST_LEVEL}
+use Rattle.carrier_model.specs.TnefMessage.{Meaning, Held, held_message, held_store, GREATEST_LEVEL}
 use Rattle.carrier_model.specs.NameMap.{Pair, pairs_of}
 use Rattle.carrier_model.specs.WrittenNames.{value_name}
-use Rattle.carrier_model.specs.WrittenMsg.{PROPERTIES}
+use Rattle.carrier_model.specs.Stores.{store_in}
 use Rattle.carrier_model.specs.MsgProps.{Part, top, embedded_message, recipient, attachment, Section, MsgProps}
-use Rattle.carrier_model.specs.MsgMessage.{name_streams, RECIPIENT_NAME, ATTACHMENT_NAME, numbered, list_in, Carried, carried, meaning_of, Inner, embedded_in, body_in, attachment_in, message_with, message_in, files_meaning, Within, HasMessage, HasBody, AttachmentMeans, MessageMeans, MsgMeans, FilesMean, file_meaning, MsgCarrier, MsgFault}
-use Rattle.carrier_model.proofs.Turns.{ok_same, bind_ok, bind_from, check_ok, check_from, mapped_ok, found_ok, each-sound, each-only, zip_weaker}
+use Rattle.carrier_model.specs.MsgMessage.{name_streams, RECIPIENT_NAME, ATTACHMENT_NAME, numbered, list_in, Carried, carried, meaning_of, Inner, is_message, held_by, held_in, body_in, attachment_in, message_with, message_in, files_meaning, Within, HoldsBy, HasObject, HasBody, AttachmentMeans, MessageMeans, MsgMeans, FilesMean, file_meaning, MsgCarrier, MsgFault}
+use Rattle.carrier_model.proofs.Turns.{ok_same, bind_ok, bind_from, mapped_ok, found_ok, each-sound, each-only, zip_weaker}
+use Rattle.carrier_model.proofs.StoreLaws.{store_in-sound, store_in-only}
 use Rattle.carrier_model.proofs.MsgProps.{props_of-sound, props_of-only}
 use Rattle.carrier_model.proofs.NameMap.{pairs_of-sound, pairs_of-only}
 
@@ -27,22 +28,25 @@ list_in-only : (part : Part) (pairs : List Pair) (s : Files) (l : Section) → M
 list_in-only part pairs s l h = props_of-only part pairs (stream_named s.children) s.place l h
 
 module _ (pairs : List Pair) (inner : Inner) (within : Within) (right : (place : ℕ) (below : Files) (m : Meaning) → inner place below ≡ Ok m → within below m) where
-  embedded-sound : (s : Files) (place : ℕ) (m : Meaning) → embedded_in inner s place ≡ Ok m → HasMessage within s m
-  unfolding embedded_in
-  embedded-sound s place m h =
-      let (below, there, a) = bind_ok (found (storage_named s.children (value_name ATTACHED_OBJECT)) (MISSING_STORAGE, place)) _ m h in
-      let b = check_ok (is_some (stream_named below.children PROPERTIES)) OLE_STORAGE place _ m a in
-      record { below = below; there = found_ok _ (MISSING_STORAGE, place) below there; listed = b.0; means = right place below m b.1 }
+  by-sound : (message : Bool) (place : ℕ) (below : Files) (h : Held) → held_by inner message place below ≡ Ok h → HoldsBy within message below h
+  by-sound true place below h e = let (m, there, is) = mapped_ok held_message (inner place below) h e in (m, right place below m there, is)
+  by-sound false place below h e = let (x, there, is) = mapped_ok held_store (store_in below) h e in (x, store_in-sound below x there, is)
 
-  body-sound : (s : Files) (o : Option ℕ) (body : Option Meaning) → body_in inner s o ≡ Ok body → HasBody within s o body
+  held-sound : (s : Files) (place : ℕ) (m : Held) → held_in inner s place ≡ Ok m → HasObject within s m
+  unfolding held_in
+  held-sound s place m h =
+      let (below, there, a) = bind_ok (found (storage_named s.children (value_name ATTACHED_OBJECT)) (MISSING_STORAGE, place)) _ m h in
+      record { below = below; there = found_ok _ (MISSING_STORAGE, place) below there; means = by-sound (is_message below) place below m a }
+
+  body-sound : (s : Files) (o : Option ℕ) (body : Option Held) → body_in inner s o ≡ Ok body → HasBody within s o body
   unfolding body_in
   body-sound s None None h = tt
   body-sound s None (Some m) h = let wrong = ok_same (Ok _) None (Some m) refl h in absurd cc
-  body-sound s (Some place) None h = let (m, there, is) = mapped_ok Some (embedded_in inner s place) None h in absurd cc
+  body-sound s (Some place) None h = let (m, there, is) = mapped_ok Some (held_in inner s place) None h in absurd cc
   body-sound s (Some place) (Some m) h =
-      let (x, there, is) = mapped_ok Some (embedded_in inner s place) (Some m) h in
+      let (x, there, is) = mapped_ok Some (held_in inner s place) (Some m) h in
       let same : x ≡ m = cc in
-      embedded-sound s place m (there ∙ ap Ok same)
+      held-sound s place m (there ∙ ap Ok same)
 
   attachment-sound : (s : Files) (a : Carried) → attachment_in pairs inner s ≡ Ok a → AttachmentMeans pairs within s a
   unfolding attachment_in
@@ -68,18 +72,22 @@ module _ (pairs : List Pair) (inner : Inner) (within : Within) (right : (place :
       }
 
 module _ (pairs : List Pair) (inner : Inner) (within : Within) (answered : (place : ℕ) (below : Files) (m : Meaning) → within below m → inner place below ≡ Ok m) where
-  embedded-only : (s : Files) (place : ℕ) (m : Meaning) → HasMessage within s m → embedded_in inner s place ≡ Ok m
-  unfolding embedded_in
-  embedded-only s place m h =
-      bind_from (found (storage_named s.children (value_name ATTACHED_OBJECT)) (MISSING_STORAGE, place)) _ h.below (ap (λ o. found o (MISSING_STORAGE, place)) h.there)
-      ∙ (check_from (is_some (stream_named h.below.children PROPERTIES)) OLE_STORAGE place _ h.listed ∙ answered place h.below m h.means)
+  by-only : (message : Bool) (place : ℕ) (below : Files) (h : Held) → HoldsBy within message below h → held_by inner message place below ≡ Ok h
+  by-only true place below h (m, means, is) = ap (mapped held_message) (answered place below m means) ∙ ap Ok (sym is)
+  by-only false place below h (x, means, is) = ap (mapped held_store) (store_in-only below x means) ∙ ap Ok (sym is)
 
-  body-only : (s : Files) (o : Option ℕ) (body : Option Meaning) → HasBody within s o body → body_in inner s o ≡ Ok body
+  held-only : (s : Files) (place : ℕ) (m : Held) → HasObject within s m → held_in inner s place ≡ Ok m
+  unfolding held_in
+  held-only s place m h =
+      bind_from (found (storage_named s.children (value_name ATTACHED_OBJECT)) (MISSING_STORAGE, place)) _ h.below (ap (λ o. found o (MISSING_STORAGE, place)) h.there)
+      ∙ by-only (is_message h.below) place h.below m h.means
+
+  body-only : (s : Files) (o : Option ℕ) (body : Option Held) → HasBody within s o body → body_in inner s o ≡ Ok body
   unfolding body_in
   body-only s None None h = refl
   body-only s None (Some m) h = absurd h
   body-only s (Some place) None h = absurd h
-  body-only s (Some place) (Some m) h = ap (mapped Some) (embedded-only s place m h)
+  body-only s (Some place) (Some m) h = ap (mapped Some) (held-only s place m h)
 
   attachment-only : (s : Files) (a : Carried) → AttachmentMeans pairs within s a → attachment_in pairs inner s ≡ Ok a
   unfolding attachment_in
@@ -130,15 +138,15 @@ files_exact root = answers_exact (files_meaning root) (FilesMean root) (files_me
 
 -- ---- whole files
 
-pub carrier-sound : (z : ℕ) (b : List ℕ) (m : Meaning) → file_meaning z b ≡ Ok m → MsgCarrier z b m.message m.passed
+pub carrier-sound : (b : List ℕ) (m : Meaning) → file_meaning b ≡ Ok m → MsgCarrier b m.message m.passed
 unfolding file_meaning
-carrier-sound z b m h =
-    let (root, opened, is) = bind_ok (open_of z b) files_meaning m h in
-    record { root = root; holds = open_sound z b root opened; means = files_meaning-sound root m is }
+carrier-sound b m h =
+    let (root, opened, is) = bind_ok (open_file b) files_meaning m h in
+    record { root = root; holds = open_sound (sector_size b) b root opened; means = files_meaning-sound root m is }
 
-pub carrier-only : (z : ℕ) (b : List ℕ) (m : Meaning) → IsTrue (is_size z) → length b ≤ 268435456 → MsgCarrier z b m.message m.passed → file_meaning z b ≡ Ok m
+pub carrier-only : (b : List ℕ) (m : Meaning) → length b ≤ 268435456 → MsgCarrier b m.message m.passed → file_meaning b ≡ Ok m
 unfolding file_meaning
-carrier-only z b m size short h = bind_from (open_of z b) files_meaning h.root (holds_opened z b h.root size short h.holds) ∙ files_meaning-only h.root m h.means
+carrier-only b m short h = bind_from (open_file b) files_meaning h.root (holds_opened (sector_size b) b h.root (size_known b) short h.holds) ∙ files_meaning-only h.root m h.means
 
-pub carriers_exact : (z : ℕ) (b : List ℕ) → IsTrue (is_size z) → length b ≤ 268435456 → IsExact (λ (m : Meaning). MsgCarrier z b m.message m.passed) (MsgFault z b)
-carriers_exact z b size short = answers_exact (file_meaning z b) (λ (m : Meaning). MsgCarrier z b m.message m.passed) (λ m. carrier-only z b m size short)
+pub carriers_exact : (b : List ℕ) → length b ≤ 268435456 → IsExact (λ (m : Meaning). MsgCarrier b m.message m.passed) (MsgFault b)
+carriers_exact b short = answers_exact (file_meaning b) (λ (m : Meaning). MsgCarrier b m.message m.passed) (λ m. carrier-only b m short)

@@ -11,7 +11,7 @@ use Rattle.carrier_model.specs.TnefLists.{first_of_list}
 use Rattle.carrier_model.specs.Turns.{in_turn, AllGive, found}
 use Rattle.carrier_model.specs.NameMap.{Pair}
 use Rattle.carrier_model.specs.Lookups.{size_place}
-use Rattle.carrier_model.specs.WrittenMsg.{PROPERTIES}
+use Rattle.carrier_model.specs.Stores.{PROPERTIES}
 use Rattle.carrier_model.specs.MsgValues.{Streams, PropEntry}
 use Rattle.carrier_model.specs.MsgProps.{Part, head_size, prop_entries, Item, kept, passed, embedding, item_of, is_double, is_new, next_item, prop_in, embedding_in, Section, section_of, props_of, option_list, MsgProps}
 use Rattle.carrier_model.proofs.Turns.{ok_same, bind_ok, bind_from, check_ok, check_from, found_ok, in_turn-sound, in_turn-only}

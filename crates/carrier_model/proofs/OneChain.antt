@@ -2,8 +2,7 @@
 use Rattle.std.proofs.Common.{◌≡◌, ℕ, zero, suc, ◌<◌, ◌≤◌, List, [], ◌∷◌, length, true, false, not, ◌||◌, eqb, ltb, refl, sym, ◌∙◌, ap, arith, Ok, inl, inr}
 use Rattle.std.proofs.lemmas.Bool.{ne_eqb, eq-eqb, eqb-true, le-ltb, lt-ltb, ltb-true, ltb-false, cond-true, cond-false, and_parts, not-true, or_parts, cases_Bool, cases_eq}
 use Rattle.std.specs.List.{IsDistinct, AllByRecursion}
-use Rattle.carrier_model.specs.Chains.{Run, longest, after, member, is_open, word, end_word}
-use Rattle.carrier_model.specs.Chains.{chain_of, chain_end, FreshChain}
+use Rattle.carrier_model.specs.Chains.{Run, longest, after, member, is_open, word, end_word, chain_of, chain_end, FreshChain}
 use Rattle.carrier_model.proofs.ChainLaws.{opened-cons, after_Leads, length-Run}
 
 -- what is open beside a number is open, and another number

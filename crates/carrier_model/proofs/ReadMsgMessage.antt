@@ -1,6 +1,6 @@
 -- The message that a .msg file means is a tree.
-use Rattle.std.proofs.Common.{ℕ, zero, suc, ◌+◌, ◌≤◌, List, [], ◌∷◌, ◌++◌, length, map, Option, Some, None, sym, subst, arith}
-use Rattle.std.specs.Prelude.{IsTrue, option_to_list}
+use Rattle.std.proofs.Common.{ℕ, zero, suc, ◌+◌, ◌≤◌, List, [], ◌∷◌, ◌++◌, length, map, Option, Some, None, sym, subst, arith, ◌≡◌, Bool, true, false, refl}
+use Rattle.std.specs.Prelude.{option_to_list}
 use Rattle.std.specs.Option.{option_map}
 use Rattle.std.specs.List.{AllZip, AllByRecursion}
 use Rattle.std.specs.Ordering.{nat_cmp, on}
@@ -8,20 +8,22 @@ use Rattle.std.specs.declared.cmp.Ordering.{Ordering}
 use Rattle.std.specs.declared.cmp.Ordering.TheVariants.{Less, Equal, Greater}
 use Rattle.carrier_model.specs.Bytes.{AllBytes}
 use Rattle.carrier_model.specs.Sorted.{choose, with_element, with_elements}
-use Rattle.carrier_model.specs.Sectors.{is_size}
+use Rattle.carrier_model.specs.Tables.{sector_size}
 use Rattle.carrier_model.specs.Files.{Children, none, storage, stream, Files}
 use Rattle.carrier_model.specs.Lookups.{Found, storage_at, stream_named, storage_named}
 use Rattle.carrier_model.specs.Tree.{Message, Attached, attachments_from, depth}
 use Rattle.carrier_model.specs.Trees.{IsPropList, HasPropLists, IsTree}
 use Rattle.carrier_model.specs.TnefLists.{ATTACHED_OBJECT}
-use Rattle.carrier_model.specs.TnefMessage.{Passed, Meaning, GREATEST_LEVEL}
+use Rattle.carrier_model.specs.TnefMessage.{Passed, Meaning, Held, GREATEST_LEVEL}
 use Rattle.carrier_model.specs.NameMap.{Pair, NamePairs}
 use Rattle.carrier_model.specs.WrittenNames.{value_name}
 use Rattle.carrier_model.specs.MsgProps.{Part, top, embedded_message, recipient, attachment, Section, MsgProps}
-use Rattle.carrier_model.specs.MsgMessage.{NAME_MAP, streams_of, stream_or_empty, name_streams, RECIPIENT_NAME, ATTACHMENT_NAME, number_in, numbered_in, numbered, Carried, carried, meaning_of, Within, HasBody, AttachmentMeans, MessageMeans, MsgMeans, MsgCarrier}
+use Rattle.carrier_model.specs.MsgMessage.{NAME_MAP, streams_of, stream_or_empty, name_streams, RECIPIENT_NAME, ATTACHMENT_NAME, number_in, numbered_in, numbered, Carried, carried, meaning_of, Within, HasBody, AttachmentMeans, MessageMeans, MsgMeans, MsgCarrier, is_message, HoldsBy}
+use Rattle.carrier_model.proofs.HoldsLaws.{size_known}
 use Rattle.carrier_model.proofs.ReadValues.{all_of}
 use Rattle.carrier_model.proofs.ReadTnef.{Fits, BodyFits, AttachmentsFit, one_more}
-use Rattle.carrier_model.proofs.ReadFiles.{ChildrenFit, children_fit, FoundFits, stream_named_fits, StorageFits, storage_named_fits}
+use Rattle.carrier_model.proofs.ReadFiles.{ChildrenFit, FilesFit, children_fit, FoundFits, stream_named_fits, StorageFits, storage_named_fits}
+use Rattle.carrier_model.proofs.StoreRead.{found_is_store}
 use Rattle.carrier_model.proofs.ReadMsg.{StreamsFit, PairsFit, names_fit, list_read}
 
 -- ---- the names of a file
@@ -32,7 +34,7 @@ or_empty (Some f) h = h.bytes
 
 in_storage : (o : Option Files) → StorageFits o → StreamsFit (streams_of o)
 in_storage None h name = tt
-in_storage (Some s) h name = stream_named_fits s.children name h
+in_storage (Some s) h name = stream_named_fits s.children name h.children
 
 pairs_of_file : (root : Files) (pairs : List Pair) → ChildrenFit root.children → NamePairs (name_streams root) pairs → PairsFit pairs
 pairs_of_file root pairs h named =
@@ -94,13 +96,18 @@ record CarriedFits (n : ℕ) (a : Attached) : Type 0 where
   list : IsPropList a.0
   body : BodyFits n a.1
 
-body_read : (within : Within) (n : ℕ) → WithinFits within n → (s : Files) (place : Option ℕ) (l : Section) (body : Option Meaning) → ChildrenFit s.children → IsPropList l.props → HasBody within s place body → CarriedFits n (carried l body).attached
+-- what a storage holds, a message or a store
+held_read : (within : Within) (n : ℕ) → WithinFits within n → (s : Files) (h : Held) → FilesFit s → (message : Bool) → is_message s ≡ message → HoldsBy within message s h → BodyFits n h.body
+held_read within n fits s h f true e (m, means, is) = subst (λ (z : Held). BodyFits n z.body) (sym is) (fits s m f.children means)
+held_read within n fits s h f false e (x, means, is) = subst (λ (z : Held). BodyFits n z.body) (sym is) (found_is_store s x f e means)
+
+body_read : (within : Within) (n : ℕ) → WithinFits within n → (s : Files) (place : Option ℕ) (l : Section) (body : Option Held) → ChildrenFit s.children → IsPropList l.props → HasBody within s place body → CarriedFits n (carried l body).attached
 body_read within n fits s None l None h list b = record { list = list; body = tt }
 body_read within n fits s None l (Some m) h list b = absurd b
 body_read within n fits s (Some place) l None h list b = absurd b
 body_read within n fits s (Some place) l (Some m) h list b =
-    let below : ChildrenFit b.below.children = subst StorageFits b.there (storage_named_fits s.children (value_name ATTACHED_OBJECT) h) in
-    record { list = list; body = fits b.below m below b.means }
+    let below : FilesFit b.below = subst StorageFits b.there (storage_named_fits s.children (value_name ATTACHED_OBJECT) h) in
+    record { list = list; body = held_read within n fits b.below m below (is_message b.below) refl b.means }
 
 attachments_read : (pairs : List Pair) → PairsFit pairs → (within : Within) (n : ℕ) → WithinFits within n → (storages : List Files) (list : List Carried) → AllByRecursion (λ (s : Files). ChildrenFit s.children) storages → AllZip (AttachmentMeans pairs within) storages list → AttachmentsFit n (attachments_from (map (λ (a : Carried). a.attached) list))
 attachments_read pairs fit within n fits [] [] h z = record { lists = tt; levels = omega arith }
@@ -131,9 +138,9 @@ level_read pairs fit (suc n) part s m h means = message_read pairs fit (λ below
     deeper t f = (f.lists, omega (arith, f.levels))
 
 -- what a .msg file of bytes means is a tree
-pub msg_is_tree : (z : ℕ) (b : List ℕ) (t : Message) (passed : List Passed) → IsTrue (is_size z) → AllBytes b → length b ≤ 0x1000_0000 → MsgCarrier z b t passed → IsTree t
-msg_is_tree z b t passed size bytes short c =
-    let h = children_fit z b c.root size bytes short c.holds in
+pub msg_is_tree : (b : List ℕ) (t : Message) (passed : List Passed) → AllBytes b → length b ≤ 0x1000_0000 → MsgCarrier b t passed → IsTree t
+msg_is_tree b t passed bytes short c =
+    let h = children_fit (sector_size b) b c.root (size_known b) bytes short c.holds in
     let m = c.means in
     let f = level_read m.pairs (pairs_of_file c.root m.pairs h m.named) GREATEST_LEVEL top c.root (record { message = t; passed = passed }) h m.means in
     record { lists = f.lists; levels = f.levels }

@@ -11,16 +11,19 @@ use Rattle.carrier_model.specs.Attributes.{Attr}
 use Rattle.carrier_model.specs.Grammar.{gives, and_then, choice, Whole}
 use Rattle.carrier_model.specs.Keys.{is_id}
 use Rattle.carrier_model.specs.Values.{Prop}
-use Rattle.carrier_model.specs.Tree.{Message, Attachments, Body, nothing, embedded, Attached, attachments_from, depth, depth_in}
+use Rattle.carrier_model.specs.Tree.{Message, Attachments, Body, nothing, embedded, stored, Attached, attachments_from, depth, depth_in}
+use Rattle.carrier_model.specs.Reasons.{TOO_DEEP}
+use Rattle.carrier_model.specs.Stores.{IsStore}
 use Rattle.carrier_model.specs.Trees.{IsPropList, HasPropLists, HavePropLists, IsTree}
 use Rattle.carrier_model.specs.LegacyAttributes.{MESSAGE_PROPS, RECIPIENTS, RENDERING, ATTACHMENT, is_message_id, is_attachment_id, legacy_prop}
 use Rattle.carrier_model.specs.TnefLists.{PropList, prop_list, recipient_lists}
-use Rattle.carrier_model.specs.TnefMessage.{Passed, Meaning, Gift, no_gift, message_list, recipients, attachment, Part, part, with_inner, inner_of, content, has_attr, is_there, place_tests, AllStand, Read, props_in, recipients_in, body_in, or_else, body_among, derived, has_key_of, joined, beside, attached_by, groups, message_by, StreamMeans, object_with, behind_interface, too_deep, message_within, GREATEST_LEVEL, TnefCarrier}
+use Rattle.carrier_model.specs.TnefMessage.{Passed, Meaning, Held, held_message, Gift, no_gift, message_list, recipients, attachment, Part, part, with_inner, inner_of, content, has_attr, is_there, place_tests, AllStand, Read, props_in, recipients_in, body_in, or_else, body_among, derived, has_key_of, joined, beside, attached_by, groups, message_by, StreamMeans, IID_MESSAGE, IID_STORAGE, has_id, refused, behind_interface, by_interface, object_with, message_within, GREATEST_LEVEL, TnefCarrier}
 use Rattle.carrier_model.proofs.Attributes.{passing}
 use Rattle.carrier_model.proofs.Numbers.{AllBytes-drop}
 use Rattle.carrier_model.proofs.CanonicalLists.{IsListed}
 use Rattle.carrier_model.proofs.ReadValues.{Fit, fit_front, all_of}
 use Rattle.carrier_model.proofs.ReadLists.{Good, good_none, good_with, list_from_good, ObjectFits, ListRead, list_reads, recipients_read}
+use Rattle.carrier_model.proofs.StoreRead.{file_is_store}
 use Rattle.carrier_model.proofs.ReadAttributes.{AttrFit, attrs_fit, legacy_listed}
 
 -- ---- what an attribute gives
@@ -33,6 +36,7 @@ pub record Fits (n : ℕ) (m : Message) : Type 0 where
 abbrev pub BodyFits : ℕ → Body → Type 0
 BodyFits n nothing = Unit {0}
 BodyFits n (embedded inner) = HasPropLists inner × (depth inner + 1 ≤ n)
+BodyFits n (stored store) = IsStore store
 
 abbrev GiftFits : ℕ → Gift → Type 0
 GiftFits n no_gift = Unit {0}
@@ -45,8 +49,8 @@ record PartRead (n : ℕ) (a : Attr) (p : Part) : Type 0 where
   list : (a.id == MESSAGE_PROPS) ≡ false → (a.id == ATTACHMENT) ≡ false → props_in p.gift ≡ []
 
 -- what an Object of an attachment means, with one level more
-abbrev ObjectsFit : Whole Meaning → ℕ → Type 0
-ObjectsFit objects n = (place : ℕ) (x : List ℕ) (m : Meaning) → Fit x → objects.means place x m → HasPropLists m.message × (depth m.message + 1 ≤ n)
+abbrev ObjectsFit : Whole Held → ℕ → Type 0
+ObjectsFit objects n = (place : ℕ) (x : List ℕ) (h : Held) → Fit x → objects.means place x h → BodyFits n h.body
 
 good_props : (lists : List PropList) → AllByRecursion ListRead lists → AllByRecursion Good (map (λ (l : PropList). l.props) lists)
 good_props [] h = tt
@@ -55,14 +59,14 @@ good_props (l ∷ lists) h = (h.0.good, good_props lists h.1)
 false_or_true : (b : Bool) → b ≡ true → b ≡ false → ⊥
 false_or_true b p q = cc
 
-inner_reads : (objects : Whole Meaning) (n : ℕ) → ObjectsFit objects n → (l : PropList) (at : ℕ) (m : Option Meaning) (s : List ℕ) → ListRead l → (inner_of objects l.object).spells at m s → GiftFits n (with_inner l m).gift
+inner_reads : (objects : Whole Held) (n : ℕ) → ObjectsFit objects n → (l : PropList) (at : ℕ) (m : Option Held) (s : List ℕ) → ListRead l → (inner_of objects l.object).spells at m s → GiftFits n (with_inner l m).gift
 inner_reads objects n fits l at m s h p = by l.object h.object p
   where
     by : (o : Option (ℕ × List ℕ)) → ObjectFits o → (inner_of objects o).spells at m s → GiftFits n (with_inner l m).gift
     by None f q = subst (λ z. GiftFits n (with_inner l z).gift) (sym q.0) (h.good, tt)
     by (Some x) f q = subst (λ z. GiftFits n (with_inner l z).gift) (sym q.second.0) (h.good, fits x.0 x.1 q.x f q.first.0)
 
-content_reads : (objects : Whole Meaning) (n : ℕ) → ObjectsFit objects n → (a : Attr) (at : ℕ) (p : Part) (s : List ℕ) → Fit s → (content objects a).spells at p s → PartRead n a p
+content_reads : (objects : Whole Held) (n : ℕ) → ObjectsFit objects n → (a : Attr) (at : ℕ) (p : Part) (s : List ℕ) → Fit s → (content objects a).spells at p s → PartRead n a p
 unfolding content
 content_reads objects n fits a at p s h c = by (a.id == MESSAGE_PROPS) (a.id == RECIPIENTS) (a.id == ATTACHMENT) (is_message_id a.id || is_attachment_id a.id) refl refl c
   where
@@ -90,7 +94,7 @@ record ReadFits (n : ℕ) (r : Read) : Type 0 where
   attr : AttrFit r.0
   part : PartRead n r.0 r.1
 
-reads_fit : (objects : Whole Meaning) (n : ℕ) → ObjectsFit objects n → (before attrs : List Attr) (parts : List Part) → AllByRecursion AttrFit attrs → AllStand objects before attrs parts → AllByRecursion (ReadFits n) (zip attrs parts)
+reads_fit : (objects : Whole Held) (n : ℕ) → ObjectsFit objects n → (before attrs : List Attr) (parts : List Part) → AllByRecursion AttrFit attrs → AllStand objects before attrs parts → AllByRecursion (ReadFits n) (zip attrs parts)
 reads_fit objects n fits before [] parts h s = tt
 reads_fit objects n fits before (a ∷ attrs) [] h s = tt
 reads_fit objects n fits before (a ∷ attrs) (p ∷ parts) h s =
@@ -155,7 +159,7 @@ good_alone n p h = by p.gift h
     by (recipients lists) f = good_none
     by (attachment props body) f = f.0
 
-own_one : (objects : Whole Meaning) (n : ℕ) (before attrs : List Attr) (parts : List Part) → AllStand objects before attrs parts → AllByRecursion (ReadFits n) (zip attrs parts) → OneList before (own_props (zip attrs parts))
+own_one : (objects : Whole Held) (n : ℕ) (before attrs : List Attr) (parts : List Part) → AllStand objects before attrs parts → AllByRecursion (ReadFits n) (zip attrs parts) → OneList before (own_props (zip attrs parts))
 own_one objects n before [] parts s h = record { none = λ e. refl; good = good_none }
 own_one objects n before (a ∷ attrs) [] s h = record { none = λ e. refl; good = good_none }
 own_one objects n before (a ∷ attrs) (p ∷ parts) s h =
@@ -300,7 +304,7 @@ continues n before r l h place e f next =
 beside_them : (n : ℕ) (before : List Attr) (a : Attr) (l : List Read) → is_attachment_id a.id ≡ false → Grouped n (before ++ a ∷ []) l → Grouped n before l
 beside_them n before a l e next = record { none = λ g. next.none (has_list-kept before a (not_begun a.id e) (not_listed a.id e) ∙ g); good = next.good; groups = next.groups }
 
-grouped : (objects : Whole Meaning) (n : ℕ) (before attrs : List Attr) (parts : List Part) → AllStand objects before attrs parts → AllByRecursion (ReadFits n) (zip attrs parts) → Grouped n before (theirs (zip attrs parts))
+grouped : (objects : Whole Held) (n : ℕ) (before attrs : List Attr) (parts : List Part) → AllStand objects before attrs parts → AllByRecursion (ReadFits n) (zip attrs parts) → Grouped n before (theirs (zip attrs parts))
 grouped objects n before [] parts s h = record { none = λ e. refl; good = good_none; groups = tt }
 grouped objects n before (a ∷ attrs) [] s h = record { none = λ e. refl; good = good_none; groups = tt }
 grouped objects n before (a ∷ attrs) (p ∷ parts) s h =
@@ -328,6 +332,7 @@ joined_good props more h g = good_with props (filter (λ p. not (has_key_of prop
 beside_listed : (body : Body) (more : List Prop) → AllByRecursion IsListed more → AllByRecursion IsListed (beside body more)
 beside_listed nothing more h = h
 beside_listed (embedded inner) more h = each_filter IsListed (λ p. not (is_id 0x3701 p.key)) more h
+beside_listed (stored store) more h = each_filter IsListed (λ p. not (is_id 0x3701 p.key)) more h
 
 body_fits : (n : ℕ) (reads : List Read) → AllByRecursion (ReadFits n) reads → BodyFits n (body_among reads)
 body_fits n [] h = tt
@@ -336,6 +341,7 @@ body_fits n (r ∷ reads) h = by r.1.gift h.0.part.fits (body_fits n reads h.1)
     either : (body other : Body) → BodyFits n body → BodyFits n other → BodyFits n (or_else body other)
     either nothing other f g = g
     either (embedded inner) other f g = f
+    either (stored store) other f g = f
 
     by : (g : Gift) → GiftFits n g → BodyFits n (body_among reads) → BodyFits n (or_else (body_in g) (body_among reads))
     by no_gift f rest = rest
@@ -364,6 +370,7 @@ pub record AttachmentsFit (n : ℕ) (attachments : Attachments) : Type 0 where
 pub one_more : (n : ℕ) (props : List Prop) (body : Body) (others : List Attached) → IsPropList props → BodyFits n body → AttachmentsFit n (attachments_from others) → AttachmentsFit n (attachments_from ((props, body) ∷ others))
 one_more n props nothing others h b rest = record { lists = (h, (tt, rest.lists)); levels = omega (arith, rest.levels) }
 one_more n props (embedded inner) others h b rest = record { lists = (h, (b.0, rest.lists)); levels = omega (arith, rest.levels, b.1) }
+one_more n props (stored store) others h b rest = record { lists = (h, (b, rest.lists)); levels = omega (arith, rest.levels) }
 
 attachments_fit : (n : ℕ) (gs : List (List Read)) → AllByRecursion (GroupFits n) gs → AttachmentsFit n (attachments_from (map attached_by gs))
 attachments_fit n [] h = record { lists = tt; levels = omega arith }
@@ -371,7 +378,7 @@ attachments_fit n (g ∷ gs) h =
     let body = body_among g in
     one_more n (joined (listed_props g) (beside body (derived g))) body (map attached_by gs) (list_from_good (joined (listed_props g) (beside body (derived g))) (joined_good (listed_props g) (beside body (derived g)) h.0.good (beside_listed body (derived g) (derived_listed n g h.0.each)))) (body_fits n g h.0.each) (attachments_fit n gs h.1)
 
-stream_fits : (objects : Whole Meaning) (n : ℕ) → ObjectsFit objects n → (at : ℕ) (s : List ℕ) (m : Meaning) → Fit s → StreamMeans objects at s m → Fits n m.message
+stream_fits : (objects : Whole Held) (n : ℕ) → ObjectsFit objects n → (at : ℕ) (s : List ℕ) (m : Meaning) → Fit s → StreamMeans objects at s m → Fits n m.message
 stream_fits objects n fits at s m h means =
     let reads = zip means.attrs means.parts in
     let each = reads_fit objects n fits [] means.attrs means.parts (attrs_fit at s means.attrs h means.there) means.stand in
@@ -386,16 +393,27 @@ stream_fits objects n fits at s m h means =
     } in
     subst (λ z. Fits n z.message) (sym means.meaning) all
 
+dropped : (x : List ℕ) → Fit x → Fit (drop 16 x)
+dropped x fit = record { bytes = AllBytes-drop 16 x fit.bytes; short = omega (arith, fit.short, length-drop 16 x) }
+
+-- what an Object holds fits where the messages in it do
+object_fits : (n : ℕ) (messages : Whole Held) → ObjectsFit messages n → ObjectsFit (object_with messages) n
+object_fits n messages fits place x h fit o = by (has_id IID_MESSAGE x) (has_id IID_STORAGE x) o
+  where
+    by : (message store : Bool) → (by_interface messages message store).means place x h → BodyFits n h.body
+    by true store m = fits place x h fit m
+    by false true (y, m, is) = subst (λ (z : Held). BodyFits n z.body) (sym is) (file_is_store (drop 16 x) y (dropped x fit).bytes m)
+    by false false m = absurd m
+
 pub level_fits : (n at : ℕ) (s : List ℕ) (m : Meaning) → Fit s → (message_within n).means at s m → Fits n m.message
 unfolding message_within
-level_fits zero at s m h means = stream_fits (object_with too_deep) 0 (λ place x inner fit o. absurd o.1) at s m h means
-level_fits (suc n) at s m h means = stream_fits (object_with (behind_interface (message_within n))) (suc n) (λ place x inner fit o. deeper (level_fits n (place + 16) (drop 16 x) inner (dropped x fit) o.1)) at s m h means
+level_fits zero at s m h means = stream_fits (object_with (refused TOO_DEEP)) 0 (object_fits 0 (refused TOO_DEEP) (λ place x inner fit o. absurd o)) at s m h means
+level_fits (suc n) at s m h means =
+    let messages = behind_interface held_message (message_within n) in
+    stream_fits (object_with messages) (suc n) (object_fits (suc n) messages (λ place x held fit o. deeper held o.0 o.2 (level_fits n (place + 16) (drop 16 x) o.0 (dropped x fit) o.1))) at s m h means
   where
-    dropped : (x : List ℕ) → Fit x → Fit (drop 16 x)
-    dropped x fit = record { bytes = AllBytes-drop 16 x fit.bytes; short = omega (arith, fit.short, length-drop 16 x) }
-
-    deeper : {t : Message} → Fits n t → HasPropLists t × (depth t + 1 ≤ suc n)
-    deeper f = (f.lists, omega (arith, f.levels))
+    deeper : (held : Held) (t : Meaning) → held ≡ held_message t → Fits n t.message → BodyFits (suc n) held.body
+    deeper held t is f = subst (λ (z : Held). BodyFits (suc n) z.body) (sym is) (f.lists, omega (arith, f.levels))
 
 -- what a stream of bytes means is a tree
 pub carrier_is_tree : (s : List ℕ) (t : Message) (passed : List Passed) → AllBytes s → length s ≤ 0x1000_0000 → TnefCarrier s t passed → IsTree t

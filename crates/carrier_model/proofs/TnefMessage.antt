@@ -1,14 +1,16 @@
 -- A TNEF stream means one message, or has one first fault, and not both.
-use Rattle.std.proofs.Common.{◌≡◌, inl, inr, ℕ, zero, suc, ◌+◌, true, false, List, [], ◌∷◌, ◌++◌, drop, Option, Some, None, refl, sym, subst, ◌∙◌, append_assoc}
+use Rattle.std.proofs.Common.{◌≡◌, inl, inr, ℕ, zero, suc, ◌+◌, Bool, true, false, List, [], ◌∷◌, ◌++◌, drop, Option, Some, None, refl, sym, ap, subst, ◌∙◌, append_assoc}
 use Rattle.std.specs.Prelude.{zip}
 use Rattle.std.proofs.lemmas.List.{append-nil}
 use Rattle.carrier_model.specs.Trail.{Fault, first_fault}
 use Rattle.carrier_model.specs.Attributes.{Attr}
 use Rattle.carrier_model.specs.Grammar.{Whole}
 use Rattle.carrier_model.specs.TnefLists.{prop_list}
-use Rattle.carrier_model.specs.TnefMessage.{Meaning, Part, inner_of, content, place_tests, Stands, AttrFails, AllStand, meaning_by, StreamMeans, stream, interface_tests, object_with, behind_interface, too_deep, message_within}
+use Rattle.carrier_model.specs.Reasons.{TOO_DEEP, BAD_INTERFACE}
+use Rattle.carrier_model.specs.TnefMessage.{Meaning, Held, held_message, held_store, Part, inner_of, content, place_tests, Stands, AttrFails, AllStand, meaning_by, StreamMeans, stream, IID_MESSAGE, IID_STORAGE, has_id, refused, object_with, behind_interface, store_whole, by_interface, message_within}
 use Rattle.carrier_model.proofs.Grammar.{Lawful, gives_lawful, then_lawful, choice_lawful, inside_lawful, means_exact, IsExactWhole}
 use Rattle.carrier_model.proofs.TnefLists.{seen_lawful, prop_list_lawful, recipient_lists_lawful}
+use Rattle.carrier_model.proofs.StoreLaws.{store_file-exact}
 use Rattle.carrier_model.proofs.Stream.{attrs_exact}
 
 one_fault : (o : Option Fault) (g h : Fault) → o ≡ Some g → o ≡ Some h → h ≡ g
@@ -17,7 +19,7 @@ one_fault o g h p q = cc
 none_or_fault : (o : Option Fault) (g : Fault) → o ≡ None → o ≡ Some g → ⊥
 none_or_fault o g p q = cc
 
-module _ (objects : Whole Meaning) (exact : IsExactWhole objects) where
+module _ (objects : Whole Held) (exact : IsExactWhole objects) where
   inner_lawful : (o : Option (ℕ × List ℕ)) → Lawful (inner_of objects o)
   inner_lawful None = gives_lawful None
   inner_lawful (Some x) = seen_lawful _ _ (inside_lawful objects x.0 x.1 exact)
@@ -119,39 +121,36 @@ module _ (objects : Whole Meaning) (exact : IsExactWhole objects) where
   pub stream_exact : IsExactWhole (stream objects)
   stream_exact at bytes = record { one = stream_one at bytes; single = stream_single at bytes; apart = stream_apart at bytes }
 
-too_deep_exact : IsExactWhole too_deep
-too_deep_exact at bytes = record {
+refused_exact : (reason : ℕ) → IsExactWhole (refused reason)
+refused_exact reason at bytes = record {
   one = λ x y p q. absurd p;
   single = λ g h p q. q ∙ sym p;
   apart = λ x g p q. p;
 }
 
-module _ (inner : Whole Meaning) (exact : IsExactWhole inner) where
-  object_single : (at : ℕ) (bytes : List ℕ) (g h : Fault) → (object_with inner).fails at bytes g → (object_with inner).fails at bytes h → h ≡ g
-  object_single at bytes g h (inl p) (inl q) = one_fault (first_fault (interface_tests at bytes)) g h p q
-  object_single at bytes g h (inl p) (inr q) = absurd (none_or_fault (first_fault (interface_tests at bytes)) g q.0 p)
-  object_single at bytes g h (inr p) (inl q) = absurd (none_or_fault (first_fault (interface_tests at bytes)) h p.0 q)
-  object_single at bytes g h (inr p) (inr q) = (exact at bytes).single g h p.1 q.1
+behind_exact : {X : Type 0} (held : X → Held) (inner : Whole X) → IsExactWhole inner → IsExactWhole (behind_interface held inner)
+behind_exact held inner exact at bytes = record {
+  one = λ x y p q. q.2 ∙ (ap held ((exact (at + 16) (drop 16 bytes)).one p.0 q.0 p.1 q.1) ∙ sym p.2);
+  single = λ g h p q. (exact (at + 16) (drop 16 bytes)).single g h p q;
+  apart = λ x g p q. (exact (at + 16) (drop 16 bytes)).apart p.0 g p.1 q;
+}
 
-  object_apart : (at : ℕ) (bytes : List ℕ) (x : Meaning) (g : Fault) → (object_with inner).means at bytes x → (object_with inner).fails at bytes g → ⊥
-  object_apart at bytes x g p (inl q) = none_or_fault (first_fault (interface_tests at bytes)) g p.0 q
-  object_apart at bytes x g p (inr q) = (exact at bytes).apart x g p.1 q.1
+store_exact : IsExactWhole store_whole
+store_exact at bytes = store_file-exact at bytes
 
-  object_exact : IsExactWhole (object_with inner)
-  object_exact at bytes = record {
-    one = λ x y p q. (exact at bytes).one x y p.1 q.1;
-    single = object_single at bytes;
-    apart = object_apart at bytes;
-  }
+by_exact : (messages : Whole Held) → IsExactWhole messages → (message store : Bool) → IsExactWhole (by_interface messages message store)
+by_exact messages exact true store = exact
+by_exact messages exact false true = behind_exact held_store store_whole store_exact
+by_exact messages exact false false = refused_exact BAD_INTERFACE
 
-  behind_exact : IsExactWhole (behind_interface inner)
-  behind_exact at bytes = record {
-    one = λ x y p q. (exact (at + 16) (drop 16 bytes)).one x y p q;
-    single = λ g h p q. (exact (at + 16) (drop 16 bytes)).single g h p q;
-    apart = λ x g p q. (exact (at + 16) (drop 16 bytes)).apart x g p q;
-  }
+object_exact : (messages : Whole Held) → IsExactWhole messages → IsExactWhole (object_with messages)
+object_exact messages exact at bytes =
+    let e = by_exact messages exact (has_id IID_MESSAGE bytes) (has_id IID_STORAGE bytes) at bytes in
+    record { one = e.one; single = e.single; apart = e.apart }
 
 pub message_exact : (n : ℕ) → IsExactWhole (message_within n)
 unfolding message_within
-message_exact zero = stream_exact (object_with too_deep) (object_exact too_deep too_deep_exact)
-message_exact (suc n) = stream_exact (object_with (behind_interface (message_within n))) (object_exact (behind_interface (message_within n)) (behind_exact (message_within n) (message_exact n)))
+message_exact zero = stream_exact (object_with (refused TOO_DEEP)) (object_exact (refused TOO_DEEP) (refused_exact TOO_DEEP))
+message_exact (suc n) =
+    let inner = behind_interface held_message (message_within n) in
+    stream_exact (object_with inner) (object_exact inner (behind_exact held_message (message_within n) (message_exact n)))

@@ -4,13 +4,13 @@ use Rattle.std.specs.Prelude.{nat_lt}
 use Rattle.std.specs.List.{flat_map, AllByRecursion}
 use Rattle.std.proofs.lemmas.Bool.{ltb-false}
 use Rattle.std.proofs.lemmas.List.{append_assoc, append-nil}
-use Rattle.carrier_model.specs.Commands.{to_msg}
-use Rattle.carrier_model.specs.Layout.{msg_of}
-use Rattle.carrier_model.specs.Limits.{Limit, too_many_names, too_many_recipients, too_many_attachments, too_large, where_passed, passed_recipients, passed_attachments, passed_by, first_limit}
+use Rattle.carrier_model.specs.Limits.{Limit, too_many_names, too_many_recipients, too_many_attachments, too_large, msg_limits, where_passed, passed_recipients, passed_attachments, passed_by, first_limit}
 use Rattle.carrier_model.specs.ReadBack.{HasFewParts, HaveFewParts, BodyHasFewParts}
-use Rattle.carrier_model.specs.Targets.{MOST_BYTES, passed_size, passed_limit}
+use Rattle.carrier_model.specs.Targets.{passed_size}
+use Rattle.carrier_model.specs.WrittenMsg.{msg_in}
+use Rattle.carrier_model.specs.Bytes.{MOST_BYTES}
 use Rattle.carrier_model.specs.Totals.{capped, recipient_count, attachment_count}
-use Rattle.carrier_model.specs.Tree.{Message, message, Attachments, no_more, attached, Body, nothing, embedded, messages_in, messages_below, messages_in_body, names_of}
+use Rattle.carrier_model.specs.Tree.{Message, message, Attachments, no_more, attached, Body, nothing, embedded, stored, messages_in, messages_below, messages_in_body, names_of}
 use Rattle.carrier_model.proofs.ChildLaws.{each-split}
 
 not_passed : (most n : ℕ) (limit : Limit) (others : List Limit) → first_limit (where_passed (nat_lt most n) limit ++ others) ≡ None → (n ≤ most) × (first_limit others ≡ None)
@@ -44,11 +44,12 @@ mutual
   few_in : (body : Body) → AllByRecursion IsWithin (messages_in_body body) → BodyHasFewParts body
   few_in nothing h = tt
   few_in (embedded inner) h = few_parts inner h
+  few_in (stored store) h = tt
 
-pub within : (t : Message) (b : List ℕ) → passed_limit to_msg t b ≡ None → (length (names_of t) ≤ 32000) × HasFewParts t × (length (msg_of t) ≤ MOST_BYTES)
-within t b h =
-    let size = passed_size (msg_of t) in
+pub within : (z : ℕ) (t : Message) → first_limit (msg_limits t ++ passed_size (msg_in z t)) ≡ None → (length (names_of t) ≤ 32000) × HasFewParts t × (length (msg_in z t) ≤ MOST_BYTES)
+within z t h =
+    let size = passed_size (msg_in z t) in
     let first = not_passed 32000 (length (names_of t)) (too_many_names (length (names_of t))) (flat_map passed_by (messages_in t) ++ size) (ap first_limit (sym (append_assoc (where_passed (nat_lt 32000 (length (names_of t))) (too_many_names (length (names_of t)))) (flat_map passed_by (messages_in t)) size)) ∙ h) in
     let parts = all_within (messages_in t) size first.1 in
-    let last = not_passed MOST_BYTES (length (msg_of t)) (too_large (capped (length (msg_of t)))) [] (ap first_limit (append-nil size) ∙ parts.1) in
+    let last = not_passed MOST_BYTES (length (msg_in z t)) (too_large (capped (length (msg_in z t)))) [] (ap first_limit (append-nil size) ∙ parts.1) in
     (first.0, few_parts t parts.0, last.0)

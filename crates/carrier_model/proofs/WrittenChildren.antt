@@ -9,23 +9,20 @@ use Rattle.std.specs.declared.cmp.Ordering.TheVariants.{Less, Equal, Greater}
 use Rattle.std.proofs.lemmas.Bool.{cond-true, cond-false}
 use Rattle.std.proofs.lemmas.List.{map-append}
 use Rattle.std.proofs.lemmas.List.Elements.{filter_map-append}
-use Rattle.std.proofs.lemmas.List.Sorted.{IsPermutation-refl, IsPermutation-sym, IsPermutation-trans, IsPermutation-middle, IsPermutation-cons}
+use Rattle.std.proofs.lemmas.List.Sorted.{IsPermutation-refl, IsPermutation-sym, IsPermutation-trans, IsPermutation-middle, IsPermutation-cons, IsPermutation-map, Contains-permutation}
 use Rattle.carrier_model.specs.FileTrees as trees
-use Rattle.carrier_model.specs.FileTrees.{FileTree, with_stream, with_storage, sorted, sibling_cmp}
-use Rattle.carrier_model.specs.Files.{Tag, Children, none, storage, stream, Files}
-use Rattle.carrier_model.specs.LayoutHolds.{bare, classless}
-use Rattle.carrier_model.specs.Sorted.{choose}
+use Rattle.carrier_model.specs.FileTrees.{FileTree, with_stream, with_storage, sorted, sibling_cmp, Named, bytes_at, store_at, files_listed, in_order_below}
+use Rattle.carrier_model.specs.Files.{Tag, Children, none, storage, stream, Files, folded}
+use Rattle.carrier_model.specs.Stores.{bare}
+use Rattle.carrier_model.specs.Sorted.{choose, IsStrictlySorted, with_elements}
 use Rattle.carrier_model.specs.Streams.{Stream}
 use Rattle.std.proofs.lemmas.Slice.Eq.{bytes_eq-Decides}
-use Rattle.std.proofs.lemmas.List.Sorted.{IsPermutation-map, Contains-permutation}
 use Rattle.std.proofs.lemmas.Map.Keys.{IsDistinct-IsPermutation}
-use Rattle.carrier_model.specs.Files.{folded}
 use Rattle.carrier_model.specs.Lookups.{same_name, storage_at, stream_named, storage_named}
 use Rattle.carrier_model.specs.ReadBack.{HasStream}
 use Rattle.std.specs.Cmp.{IsTotalOrder}
 use Rattle.std.proofs.lemmas.Cmp.{nat_cmp_total, on_total}
 use Rattle.std.proofs.lemmas.Bool.Decides.{nat_tests}
-use Rattle.carrier_model.specs.Sorted.{IsStrictlySorted, with_elements}
 use Rattle.carrier_model.specs.MsgMessage.{number_in, numbered_in, numbered}
 use Rattle.carrier_model.proofs.SortedElements.{elements_good, permuted_distinct}
 use Rattle.carrier_model.proofs.SortedLists.{in_tail, same_sorted}
@@ -111,39 +108,31 @@ kids (stream tag s rest) = stream_kid tag s ∷ kids rest
 -- a child that is written
 pub data Entry : Type 0 where
   file : (name bytes : List ℕ) → Entry
-  folder : (name : List ℕ) → (inside : FileTree) → Entry
+  folder : (name class : List ℕ) → (inside : FileTree) → Entry
 
 abbrev pub entries : FileTree → List Entry
 entries trees.no_file = []
 entries (trees.stream name bytes others) = file name bytes ∷ entries others
-entries (trees.storage name class inside others) = folder name inside ∷ entries others
+entries (trees.storage name class inside others) = folder name class inside ∷ entries others
 
 abbrev pub entry_name : Entry → List ℕ
 entry_name (file name bytes) = name
-entry_name (folder name inside) = name
+entry_name (folder name class inside) = name
 
 -- a child by its name and bytes
 abbrev pub bare_kid : Kid → Entry
 bare_kid (stream_kid tag s) = file tag.name s.bytes
-bare_kid (storage_kid tag below) = folder tag.name (bare below)
+bare_kid (storage_kid tag below) = folder tag.name tag.class (bare below)
 
 bare_kids : (c : Children) → entries (bare c) ≡ map bare_kid (kids c)
 bare_kids none = refl
-bare_kids (storage tag below rest) = ap (λ l. folder tag.name (bare below) ∷ l) (bare_kids rest)
+bare_kids (storage tag below rest) = ap (λ l. folder tag.name tag.class (bare below) ∷ l) (bare_kids rest)
 bare_kids (stream tag s rest) = ap (λ l. file tag.name s.bytes ∷ l) (bare_kids rest)
 
-abbrev pub classless_entry : Entry → Entry
-classless_entry (file name bytes) = file name bytes
-classless_entry (folder name inside) = folder name (classless inside)
-
-abbrev pub sorted_entry : Entry → Entry
-sorted_entry (file name bytes) = file name bytes
-sorted_entry (folder name inside) = folder name (sorted inside)
-
-classless_entries : (f : FileTree) → entries (classless f) ≡ map classless_entry (entries f)
-classless_entries trees.no_file = refl
-classless_entries (trees.stream name bytes others) = ap (λ l. file name bytes ∷ l) (classless_entries others)
-classless_entries (trees.storage name class inside others) = ap (λ l. folder name (classless inside) ∷ l) (classless_entries others)
+-- a child as it was written, what is in a storage in another order
+abbrev pub found_entry : Entry → Entry
+found_entry (file name bytes) = file name bytes
+found_entry (folder name class inside) = folder name class (sorted inside)
 
 -- further back is among too
 among_more : (x y : Entry) (others all : List Entry) → Among x others all → Among x (y ∷ others) (y ∷ all)
@@ -159,38 +148,51 @@ with_stream_among name bytes (trees.stream other x others) = by (with_stream_amo
     by h Greater = ([], file other x ∷ entries others, refl, refl)
 with_stream_among name bytes (trees.storage other class inside others) = by (with_stream_among name bytes others) (sibling_cmp other name)
   where
-    by : Among (file name bytes) (entries others) (entries (with_stream name bytes others)) → (o : Ordering) → Among (file name bytes) (folder other inside ∷ entries others) (entries (choose o (trees.storage other class inside (with_stream name bytes others)) (trees.stream name bytes (trees.storage other class inside others)) (trees.stream name bytes (trees.storage other class inside others))))
-    by h Less = among_more (file name bytes) (folder other inside) (entries others) (entries (with_stream name bytes others)) h
-    by h Equal = ([], folder other inside ∷ entries others, refl, refl)
-    by h Greater = ([], folder other inside ∷ entries others, refl, refl)
+    by : Among (file name bytes) (entries others) (entries (with_stream name bytes others)) → (o : Ordering) → Among (file name bytes) (folder other class inside ∷ entries others) (entries (choose o (trees.storage other class inside (with_stream name bytes others)) (trees.stream name bytes (trees.storage other class inside others)) (trees.stream name bytes (trees.storage other class inside others))))
+    by h Less = among_more (file name bytes) (folder other class inside) (entries others) (entries (with_stream name bytes others)) h
+    by h Equal = ([], folder other class inside ∷ entries others, refl, refl)
+    by h Greater = ([], folder other class inside ∷ entries others, refl, refl)
 
-with_storage_among : (name class : List ℕ) (below g : FileTree) → Among (folder name below) (entries g) (entries (with_storage name class below g))
+with_storage_among : (name class : List ℕ) (below g : FileTree) → Among (folder name class below) (entries g) (entries (with_storage name class below g))
 with_storage_among name class below trees.no_file = ([], [], refl, refl)
 with_storage_among name class below (trees.stream other x others) = by (with_storage_among name class below others) (sibling_cmp other name)
   where
-    by : Among (folder name below) (entries others) (entries (with_storage name class below others)) → (o : Ordering) → Among (folder name below) (file other x ∷ entries others) (entries (choose o (trees.stream other x (with_storage name class below others)) (trees.storage name class below (trees.stream other x others)) (trees.storage name class below (trees.stream other x others))))
-    by h Less = among_more (folder name below) (file other x) (entries others) (entries (with_storage name class below others)) h
+    by : Among (folder name class below) (entries others) (entries (with_storage name class below others)) → (o : Ordering) → Among (folder name class below) (file other x ∷ entries others) (entries (choose o (trees.stream other x (with_storage name class below others)) (trees.storage name class below (trees.stream other x others)) (trees.storage name class below (trees.stream other x others))))
+    by h Less = among_more (folder name class below) (file other x) (entries others) (entries (with_storage name class below others)) h
     by h Equal = ([], file other x ∷ entries others, refl, refl)
     by h Greater = ([], file other x ∷ entries others, refl, refl)
 with_storage_among name class below (trees.storage other kind inside others) = by (with_storage_among name class below others) (sibling_cmp other name)
   where
-    by : Among (folder name below) (entries others) (entries (with_storage name class below others)) → (o : Ordering) → Among (folder name below) (folder other inside ∷ entries others) (entries (choose o (trees.storage other kind inside (with_storage name class below others)) (trees.storage name class below (trees.storage other kind inside others)) (trees.storage name class below (trees.storage other kind inside others))))
-    by h Less = among_more (folder name below) (folder other inside) (entries others) (entries (with_storage name class below others)) h
-    by h Equal = ([], folder other inside ∷ entries others, refl, refl)
-    by h Greater = ([], folder other inside ∷ entries others, refl, refl)
+    by : Among (folder name class below) (entries others) (entries (with_storage name class below others)) → (o : Ordering) → Among (folder name class below) (folder other kind inside ∷ entries others) (entries (choose o (trees.storage other kind inside (with_storage name class below others)) (trees.storage name class below (trees.storage other kind inside others)) (trees.storage name class below (trees.storage other kind inside others))))
+    by h Less = among_more (folder name class below) (folder other kind inside) (entries others) (entries (with_storage name class below others)) h
+    by h Equal = ([], folder other kind inside ∷ entries others, refl, refl)
+    by h Greater = ([], folder other kind inside ∷ entries others, refl, refl)
 
-sorted_arranged : (f : FileTree) → Arranged (map sorted_entry (entries f)) (entries (sorted f))
+sorted_arranged : (f : FileTree) → Arranged (map found_entry (entries f)) (entries (sorted f))
 sorted_arranged trees.no_file = refl
 sorted_arranged (trees.stream name bytes others) = (entries (sorted others), with_stream_among name bytes (sorted others), sorted_arranged others)
 sorted_arranged (trees.storage name class inside others) = (entries (sorted others), with_storage_among name class (sorted inside) (sorted others), sorted_arranged others)
 
--- a child as it was written, that of a storage in another order
-abbrev pub found_entry : Entry → Entry
-found_entry e = classless_entry (sorted_entry e)
+-- the same as a list of members
+abbrev member_entry : Entry → Named
+member_entry (file name bytes) = (name, bytes_at bytes)
+member_entry (folder name class inside) = (name, store_at (record { class = class; members = inside }))
 
-map_twice : (l : List Entry) → map classless_entry (map sorted_entry l) ≡ map found_entry l
-map_twice [] = refl
-map_twice (e ∷ l) = ap (λ z. found_entry e ∷ z) (map_twice l)
+members_listed : (f : FileTree) → map member_entry (entries f) ≡ files_listed f
+members_listed trees.no_file = refl
+members_listed (trees.stream name bytes others) = ap (λ l. (name, bytes_at bytes) ∷ l) (members_listed others)
+members_listed (trees.storage name class inside others) = ap (λ l. (name, store_at (record { class = class; members = inside })) ∷ l) (members_listed others)
+
+in_order_listed : (es : List Entry) → map member_entry (map found_entry es) ≡ map in_order_below (map member_entry es)
+in_order_listed [] = refl
+in_order_listed (file name bytes ∷ es) = ap (λ l. (name, bytes_at bytes) ∷ l) (in_order_listed es)
+in_order_listed (folder name class inside ∷ es) = ap (λ l. (name, store_at (record { class = class; members = sorted inside })) ∷ l) (in_order_listed es)
+
+-- siblings in order are the same siblings
+pub sorted-same : (f : FileTree) → IsPermutation (map in_order_below (files_listed f)) (files_listed (sorted f))
+sorted-same f =
+    let p : IsPermutation (map member_entry (map found_entry (entries f))) (map member_entry (entries (sorted f))) = IsPermutation-map member_entry (map found_entry (entries f)) (entries (sorted f)) (arranged_permutes (map found_entry (entries f)) (entries (sorted f)) (sorted_arranged f)) in
+    subst (λ l. IsPermutation l (files_listed (sorted f))) (in_order_listed (entries f) ∙ ap (map in_order_below) (members_listed f)) (subst (λ l. IsPermutation (map member_entry (map found_entry (entries f))) l) (members_listed (sorted f)) p)
 
 -- The children that are found, in the order in which they were written.
 pub record FoundAs (c : Children) (f : FileTree) : Type 0 where
@@ -198,13 +200,10 @@ pub record FoundAs (c : Children) (f : FileTree) : Type 0 where
   pub views : map bare_kid own ≡ map found_entry (entries f)
   pub order : Arranged own (kids c)
 
-pub found_as : (c : Children) (f : FileTree) → bare c ≡ classless (sorted f) → FoundAs c f
+pub found_as : (c : Children) (f : FileTree) → bare c ≡ sorted f → FoundAs c f
 found_as c f e =
-    let all : map bare_kid (kids c) ≡ map classless_entry (entries (sorted f)) = sym (bare_kids c) ∙ (ap entries e ∙ classless_entries (sorted f)) in
-    let arranged : Arranged (map found_entry (entries f)) (map bare_kid (kids c)) =
-    subst (λ z. Arranged z (map bare_kid (kids c))) (map_twice (entries f))
-    (subst (λ z. Arranged (map classless_entry (map sorted_entry (entries f))) z) (sym all)
-    (arranged_map classless_entry (map sorted_entry (entries f)) (entries (sorted f)) (sorted_arranged f))) in
+    let all : map bare_kid (kids c) ≡ entries (sorted f) = sym (bare_kids c) ∙ ap entries e in
+    let arranged : Arranged (map found_entry (entries f)) (map bare_kid (kids c)) = subst (λ z. Arranged (map found_entry (entries f)) z) (sym all) (sorted_arranged f) in
     let (own, views, order) = arranged_back bare_kid (map found_entry (entries f)) (kids c) arranged in
     record { own = own; views = views; order = order }
 
@@ -265,7 +264,7 @@ bare_name (storage_kid tag below) = refl
 
 found_name : (e : Entry) → entry_name (found_entry e) ≡ entry_name e
 found_name (file name bytes) = refl
-found_name (folder name inside) = refl
+found_name (folder name class inside) = refl
 
 map_names : {A B C : Type 0} (f : A → B) (g : B → C) (h : A → C) → ((a : A) → g (f a) ≡ h a) → (l : List A) → map g (map f l) ≡ map h l
 map_names f g h e [] = refl
@@ -309,19 +308,21 @@ stream_found c f h d name bytes there = by (kid_in c f h (file name bytes) there
     by (storage_kid tag below, in_kids, e) = absurd cc
 
 -- a storage that holds what was written
-pub record HasStorage (c : Children) (name : List ℕ) (inside : FileTree) : Type 0 where
+pub record HasStorage (c : Children) (name class : List ℕ) (inside : FileTree) : Type 0 where
   pub s : Files
   pub there : storage_named c name ≡ Some s
-  pub holds : bare s.children ≡ classless (sorted inside)
+  pub class_is : s.class ≡ class
+  pub holds : bare s.children ≡ sorted inside
 
-pub storage_found : (c : Children) (f : FileTree) → FoundAs c f → Apart f → (name : List ℕ) (inside : FileTree) → Contains (entries f) (folder name inside) → HasStorage c name inside
-storage_found c f h d name inside there = by (kid_in c f h (folder name inside) there)
+pub storage_found : (c : Children) (f : FileTree) → FoundAs c f → Apart f → (name class : List ℕ) (inside : FileTree) → Contains (entries f) (folder name class inside) → HasStorage c name class inside
+storage_found c f h d name class inside there = by (kid_in c f h (folder name class inside) there)
   where
-    by : (k : Kid) × Contains (kids c) k × (bare_kid k ≡ folder name (classless (sorted inside))) → HasStorage c name inside
+    by : (k : Kid) × Contains (kids c) k × (bare_kid k ≡ folder name class (sorted inside)) → HasStorage c name class inside
     by (storage_kid tag below, in_kids, e) =
         let is_name : tag.name ≡ name = cc in
-        let is_inside : bare below ≡ classless (sorted inside) = cc in
-        record { s = storage_at tag below; there = ap (storage_named c) (sym is_name) ∙ storage_looked_up c tag below (kids_apart c f h d) in_kids; holds = is_inside }
+        let is_class : tag.class ≡ class = cc in
+        let is_inside : bare below ≡ sorted inside = cc in
+        record { s = storage_at tag below; class_is = is_class; there = ap (storage_named c) (sym is_name) ∙ storage_looked_up c tag below (kids_apart c f h d) in_kids; holds = is_inside }
     by (stream_kid tag s, in_kids, e) = absurd cc
 
 -- ---- numbered storages
@@ -332,7 +333,7 @@ numbered_kid prefix (storage_kid tag below) = option_map (λ n. (n, storage_at t
 
 abbrev pub numbered_entry : List ℕ → Entry → Option (ℕ × FileTree)
 numbered_entry prefix (file name bytes) = None
-numbered_entry prefix (folder name inside) = option_map (λ n. (n, inside)) (number_in prefix name)
+numbered_entry prefix (folder name class inside) = option_map (λ n. (n, inside)) (number_in prefix name)
 
 -- the numbered storages that are written, each with its number
 abbrev pub numbers : List ℕ → FileTree → List (ℕ × FileTree)
@@ -349,25 +350,25 @@ numbered_kids prefix (storage tag below rest) = by (option_map (λ n. (n, storag
 
 -- a storage that is found, and one that was written, with one number
 abbrev pub SameNumber : ℕ × Files → ℕ × FileTree → Type 0
-SameNumber k t = (k.0 ≡ t.0) × (bare k.1.children ≡ classless (sorted t.1))
+SameNumber k t = (k.0 ≡ t.0) × (bare k.1.children ≡ sorted t.1)
 
 numbers_zip : (prefix : List ℕ) (ks : List Kid) (es : List Entry) → map bare_kid ks ≡ map found_entry es → AllZip SameNumber (filter_map (numbered_kid prefix) ks) (filter_map (numbered_entry prefix) es)
 numbers_zip prefix [] [] views = tt
 numbers_zip prefix [] (e ∷ es) views = absurd cc
 numbers_zip prefix (k ∷ ks) [] views = absurd cc
 numbers_zip prefix (stream_kid tag s ∷ ks) (file name bytes ∷ es) views = numbers_zip prefix ks es (let h : file tag.name s.bytes ∷ map bare_kid ks ≡ file name bytes ∷ map found_entry es = views in cc)
-numbers_zip prefix (stream_kid tag s ∷ ks) (folder name inside ∷ es) views = absurd (let h : file tag.name s.bytes ∷ map bare_kid ks ≡ folder name (classless (sorted inside)) ∷ map found_entry es = views in cc)
-numbers_zip prefix (storage_kid tag below ∷ ks) (file name bytes ∷ es) views = absurd (let h : folder tag.name (bare below) ∷ map bare_kid ks ≡ file name bytes ∷ map found_entry es = views in cc)
-numbers_zip prefix (storage_kid tag below ∷ ks) (folder name inside ∷ es) views = by (number_in prefix tag.name) (number_in prefix name) (ap (number_in prefix) names) (numbers_zip prefix ks es tail)
+numbers_zip prefix (stream_kid tag s ∷ ks) (folder name class inside ∷ es) views = absurd (let h : file tag.name s.bytes ∷ map bare_kid ks ≡ folder name class (sorted inside) ∷ map found_entry es = views in cc)
+numbers_zip prefix (storage_kid tag below ∷ ks) (file name bytes ∷ es) views = absurd (let h : folder tag.name tag.class (bare below) ∷ map bare_kid ks ≡ file name bytes ∷ map found_entry es = views in cc)
+numbers_zip prefix (storage_kid tag below ∷ ks) (folder name class inside ∷ es) views = by (number_in prefix tag.name) (number_in prefix name) (ap (number_in prefix) names) (numbers_zip prefix ks es tail)
   where
     tail : map bare_kid ks ≡ map found_entry es
-    tail = (let h : folder tag.name (bare below) ∷ map bare_kid ks ≡ folder name (classless (sorted inside)) ∷ map found_entry es = views in cc)
+    tail = (let h : folder tag.name tag.class (bare below) ∷ map bare_kid ks ≡ folder name class (sorted inside) ∷ map found_entry es = views in cc)
 
     names : tag.name ≡ name
-    names = (let h : folder tag.name (bare below) ∷ map bare_kid ks ≡ folder name (classless (sorted inside)) ∷ map found_entry es = views in let one : folder tag.name (bare below) ≡ folder name (classless (sorted inside)) = cc in cc)
+    names = (let h : folder tag.name tag.class (bare below) ∷ map bare_kid ks ≡ folder name class (sorted inside) ∷ map found_entry es = views in let one : folder tag.name tag.class (bare below) ≡ folder name class (sorted inside) = cc in cc)
 
-    insides : bare below ≡ classless (sorted inside)
-    insides = (let h : folder tag.name (bare below) ∷ map bare_kid ks ≡ folder name (classless (sorted inside)) ∷ map found_entry es = views in let one : folder tag.name (bare below) ≡ folder name (classless (sorted inside)) = cc in cc)
+    insides : bare below ≡ sorted inside
+    insides = (let h : folder tag.name tag.class (bare below) ∷ map bare_kid ks ≡ folder name class (sorted inside) ∷ map found_entry es = views in let one : folder tag.name tag.class (bare below) ≡ folder name class (sorted inside) = cc in cc)
 
     by : (o p : Option ℕ) → o ≡ p → AllZip SameNumber (filter_map (numbered_kid prefix) ks) (filter_map (numbered_entry prefix) es) → AllZip SameNumber (cons_option (option_map (λ n. (n, storage_at tag below)) o) (filter_map (numbered_kid prefix) ks)) (cons_option (option_map (λ n. (n, inside)) p) (filter_map (numbered_entry prefix) es))
     by None None e rest = rest
@@ -403,7 +404,7 @@ counting_zip k [] (t ∷ m) z h = absurd z
 counting_zip k (x ∷ l) [] z h = absurd z
 counting_zip k (x ∷ l) (t ∷ m) z h = (z.0.0 ∙ h.0, counting_zip (k + 1) l m z.1 h.1)
 
-insides_zip : (l : List (ℕ × Files)) (m : List (ℕ × FileTree)) → AllZip SameNumber l m → AllZip (λ (r : Files) inside. bare r.children ≡ classless (sorted inside)) (map (λ p. p.1) l) (map (λ p. p.1) m)
+insides_zip : (l : List (ℕ × Files)) (m : List (ℕ × FileTree)) → AllZip SameNumber l m → AllZip (λ (r : Files) inside. bare r.children ≡ sorted inside) (map (λ p. p.1) l) (map (λ p. p.1) m)
 insides_zip [] [] z = tt
 insides_zip [] (t ∷ m) z = absurd z
 insides_zip (x ∷ l) [] z = absurd z
@@ -413,7 +414,7 @@ pub number_total : IsTotalOrder (by_number {A = Files})
 number_total = on_total (λ (p : ℕ × Files). p.0) nat_cmp_total
 
 -- The numbered storages that are found are those that were written, in order.
-pub numbered_found : (prefix : List ℕ) (s : Files) (f : FileTree) → FoundAs s.children f → Counting 0 (numbers prefix f) → AllZip (λ (r : Files) inside. bare r.children ≡ classless (sorted inside)) (numbered prefix s) (map (λ p. p.1) (numbers prefix f))
+pub numbered_found : (prefix : List ℕ) (s : Files) (f : FileTree) → FoundAs s.children f → Counting 0 (numbers prefix f) → AllZip (λ (r : Files) inside. bare r.children ≡ sorted inside) (numbered prefix s) (map (λ p. p.1) (numbers prefix f))
 numbered_found prefix s f h counts =
     let own : List (ℕ × Files) = filter_map (numbered_kid prefix) h.own in
     let all : List (ℕ × Files) = filter_map (numbered_kid prefix) (kids s.children) in
@@ -423,4 +424,4 @@ numbered_found prefix s f h counts =
     let good = elements_good number_total all (permuted_distinct number_total all own order rises) in
     let same : own ≡ with_elements by_number [] all = same_sorted number_total all (with_elements by_number [] all) own good.1 order good.0 rises in
     let whole : with_elements by_number [] (numbered_in prefix s.children) ≡ own = ap (with_elements by_number []) (numbered_kids prefix s.children) ∙ sym same in
-    subst (λ (l : List Files). AllZip (λ (r : Files) inside. bare r.children ≡ classless (sorted inside)) l (map (λ p. p.1) (numbers prefix f))) (sym (ap (map (λ (p : ℕ × Files). p.1)) whole)) (insides_zip own (numbers prefix f) zip)
+    subst (λ (l : List Files). AllZip (λ (r : Files) inside. bare r.children ≡ sorted inside) l (map (λ p. p.1) (numbers prefix f))) (sym (ap (map (λ (p : ℕ × Files). p.1)) whole)) (insides_zip own (numbers prefix f) zip)

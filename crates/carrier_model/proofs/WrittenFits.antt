@@ -1,25 +1,27 @@
 -- The files that are written for a message may be written: their names are short, differ in each storage, and no storage
 -- is too deep.
-use Rattle.std.proofs.Common.{◌≡◌, ℕ, zero, suc, ◌+◌, ◌-◌, ◌*◌, ◌/◌, ◌%◌, ◌<◌, ◌≤◌, ◌^◌, Bool, true, false, cond, List, [], ◌∷◌, ◌++◌, length, map, replicate, refl, sym, ap, subst, inl, inr, arith}
+use Rattle.std.proofs.Common.{◌≡◌, ℕ, zero, suc, ◌+◌, ◌-◌, ◌*◌, ◌/◌, ◌%◌, ◌<◌, ◌≤◌, ◌^◌, Bool, true, false, cond, List, [], ◌∷◌, ◌++◌, length, map, replicate, refl, sym, ap, subst, inl, inr, arith, Option, None}
 use Rattle.std.specs.Prelude.{nat_lt, nat_eq, codes, filter}
 use Rattle.std.specs.List.{AllByRecursion, IsDistinct, list_all, flat_map, range_with_len}
 use Rattle.std.specs.Cmp.Lexicographic.{pointwise}
 use Rattle.std.proofs.lemmas.Bool.{and_parts, ltb-true, cases_lt, cond-true, cond-false, lt-ltb, le-ltb}
 use Rattle.carrier_model.specs.FileTrees as trees
-use Rattle.carrier_model.specs.FileTrees.{FileTree, and_files, streams_from, NO_CLASS}
+use Rattle.carrier_model.specs.FileTrees.{FileTree, and_files, streams_from, NO_CLASS, file_names, IsFileName, storage_depth}
 use Rattle.carrier_model.specs.Files.{folded}
 use Rattle.carrier_model.specs.Holds.{AreApart}
 use Rattle.carrier_model.specs.KeyTexts.{upper, hex_digit, hex_digits}
 use Rattle.carrier_model.specs.Keys.{Name}
-use Rattle.carrier_model.specs.LayoutHolds.{file_names, IsFileName, MayBeWrittenAt, MayBeWritten}
+use Rattle.carrier_model.specs.LayoutHolds.{MayBeWrittenAt, MayBeWritten}
 use Rattle.carrier_model.specs.Lookups.{same_name}
 use Rattle.carrier_model.specs.MsgMessage.{NAME_MAP, RECIPIENT_NAME, ATTACHMENT_NAME}
-use Rattle.carrier_model.specs.Tree.{Message, message, Attachments, no_more, attached, Body, nothing, embedded, depth, depth_in, depth_of_body, listed, names_in, names_below, names_in_body, names_in_props, names_of}
+use Rattle.carrier_model.specs.Tree.{Message, message, Attachments, no_more, attached, Body, nothing, embedded, stored, depth, depth_in, depth_of_body, listed, names_in, names_below, names_in_body, names_in_props, names_of}
 use Rattle.carrier_model.specs.Trees.{IsPropList, HasPropLists, HavePropLists, BodyHasPropLists, IsTree}
 use Rattle.carrier_model.specs.Values.{Value, number, guid, bytes, numbers, guids, parts, Prop}
 use Rattle.carrier_model.specs.WrittenNames.{value_name, hash_stream, has_bytes, name_map_files}
-use Rattle.carrier_model.specs.WrittenMsg.{PROPERTIES, OBJECT_TAG, element_name, numbered_name, element_streams, value_streams, props_streams, tag_of, list_files, recipient_files, attachment_files, body_files, message_files, is_embedded, head_of, files_of}
+use Rattle.carrier_model.specs.WrittenMsg.{OBJECT_TAG, element_name, numbered_name, element_streams, value_streams, props_streams, tag_of, list_files, recipient_files, attachment_files, body_files, message_files, object_word, head_of, files_of}
+use Rattle.carrier_model.specs.Stores.{PROPERTIES, AreMembers}
 use Rattle.carrier_model.specs.ReadBack.{HasFewParts, HaveFewParts, BodyHasFewParts, StreamsFit}
+use Rattle.carrier_model.proofs.StoreOrder.{in_order_apart}
 use Rattle.carrier_model.proofs.WrittenFileNames.{every_append}
 use Rattle.carrier_model.proofs.Orders.{name_exact}
 use Rattle.carrier_model.proofs.SortedElements.{all_elements}
@@ -49,22 +51,22 @@ digits_small zero n = tt
 digits_small (suc count) n = every_append (λ unit. unit < 2 ^ 16) (hex_digits upper count (n / 16)) (hex_digit upper (n % 16) ∷ []) (digits_small count (n / 16)) (digit_small (n % 16) (omega arith), tt)
 
 value_named : (tag : ℕ) → IsFileName (value_name tag)
-value_named tag = record { some = omega arith; few = omega arith; units = every_append (λ unit. unit < 2 ^ 16) (codes "__substg1.0_") (hex_digits upper 8 tag) (small_by_test (codes "__substg1.0_") refl) (digits_small 8 tag) }
+value_named tag = record { few = omega arith; units = every_append (λ unit. unit < 2 ^ 16) (codes "__substg1.0_") (hex_digits upper 8 tag) (small_by_test (codes "__substg1.0_") refl) (digits_small 8 tag) }
 
 element_named : (tag i : ℕ) → IsFileName (element_name tag i)
-element_named tag i = record { some = omega arith; few = omega arith; units = every_append (λ unit. unit < 2 ^ 16) (value_name tag) (codes "-" ++ hex_digits upper 8 i) (value_named tag).units (every_append (λ unit. unit < 2 ^ 16) (codes "-") (hex_digits upper 8 i) (small_by_test (codes "-") refl) (digits_small 8 i)) }
+element_named tag i = record { few = omega arith; units = every_append (λ unit. unit < 2 ^ 16) (value_name tag) (codes "-" ++ hex_digits upper 8 i) (value_named tag).units (every_append (λ unit. unit < 2 ^ 16) (codes "-") (hex_digits upper 8 i) (small_by_test (codes "-") refl) (digits_small 8 i)) }
 
 recipient_named : (i : ℕ) → IsFileName (numbered_name RECIPIENT_NAME i)
-recipient_named i = record { some = omega arith; few = omega arith; units = every_append (λ unit. unit < 2 ^ 16) RECIPIENT_NAME (hex_digits upper 8 i) (small_by_test RECIPIENT_NAME refl) (digits_small 8 i) }
+recipient_named i = record { few = omega arith; units = every_append (λ unit. unit < 2 ^ 16) RECIPIENT_NAME (hex_digits upper 8 i) (small_by_test RECIPIENT_NAME refl) (digits_small 8 i) }
 
 attachment_named : (i : ℕ) → IsFileName (numbered_name ATTACHMENT_NAME i)
-attachment_named i = record { some = omega arith; few = omega arith; units = every_append (λ unit. unit < 2 ^ 16) ATTACHMENT_NAME (hex_digits upper 8 i) (small_by_test ATTACHMENT_NAME refl) (digits_small 8 i) }
+attachment_named i = record { few = omega arith; units = every_append (λ unit. unit < 2 ^ 16) ATTACHMENT_NAME (hex_digits upper 8 i) (small_by_test ATTACHMENT_NAME refl) (digits_small 8 i) }
 
 properties_named : IsFileName PROPERTIES
-properties_named = record { some = omega arith; few = omega arith; units = small_by_test PROPERTIES refl }
+properties_named = record { few = omega arith; units = small_by_test PROPERTIES refl }
 
 map_named : IsFileName NAME_MAP
-map_named = record { some = omega arith; few = omega arith; units = small_by_test NAME_MAP refl }
+map_named = record { few = omega arith; units = small_by_test NAME_MAP refl }
 
 -- ---- children
 
@@ -109,6 +111,15 @@ names_same (trees.storage name class inside others) = ap (λ l. name ∷ l) (nam
 files_apart : (f : FileTree) → Apart f → AreApart (file_names f)
 files_apart f d = subst (λ l. IsDistinct (pointwise nat_eq) (map folded l)) (sym (names_same f)) (distinct_folded (map entry_name (entries f)) d)
 
+-- ---- stores
+
+members_fit : (at : ℕ) (f : FileTree) → AreMembers f → at + storage_depth f ≤ 101 → NamesFit at f
+unfolding NamesFit
+members_fit at trees.no_file m le = tt
+members_fit at (trees.stream name x others) m le = (m.0, members_fit at others m.1 le)
+members_fit at (trees.storage name class inside others) m le =
+    (m.0, m.1, omega (arith, le), in_order_apart inside m.2, members_fit (at + 1) inside m.3 (omega (arith, le)), members_fit at others m.4 (omega (arith, le)))
+
 -- ---- lists
 
 elements_named : (tag kind i : ℕ) (xs : List (List ℕ)) → AllByRecursion (λ p. IsFileName p.0) (element_streams tag kind i xs)
@@ -127,9 +138,9 @@ list_named : (names : List Name) (props : List Prop) → AllByRecursion (λ p. I
 list_named names [] = tt
 list_named names (p ∷ props) = every_append (λ (q : List ℕ × List ℕ). IsFileName q.0) (value_streams (tag_of names p) p.value) (props_streams names props) (values_named (tag_of names p) p.value) (list_named names props)
 
-list_fit : (at : ℕ) (names : List Name) (head : List ℕ) (props : List Prop) (inner : Bool) → NamesFit at (list_files names head props inner)
+list_fit : (at : ℕ) (names : List Name) (head : List ℕ) (props : List Prop) (object : Option ℕ) → NamesFit at (list_files names head props object)
 unfolding NamesFit
-list_fit at names head props inner = (properties_named, streams_fit at (props_streams names props) (list_named names props))
+list_fit at names head props object = (properties_named, streams_fit at (props_streams names props) (list_named names props))
 
 hashes_named : (names : List Name) (b n : ℕ) → AllByRecursion (λ p. IsFileName p.0) (filter has_bytes (map (hash_stream names) (range_with_len b n)))
 hashes_named names b zero = tt
@@ -152,22 +163,22 @@ module _ (names : List Name) (few : length names ≤ 32000) where
     recipient_named i,
     refl,
     low,
-    files_apart (list_files names (replicate 8 0) r false) (WrittenTrees.recipient_apart names (replicate 8 0) r false (WrittenTrees.all_ready names r few good.0 (messages.among names r (messages.in_front names (names_in_props r) (flat_map names_in_props rs) known))) (good.0).sorted),
-    list_fit (at + 1) names (replicate 8 0) r false,
+    files_apart (list_files names (replicate 8 0) r None) (WrittenTrees.recipient_apart names (replicate 8 0) r None (WrittenTrees.all_ready names r few good.0 (messages.among names r (messages.in_front names (names_in_props r) (flat_map names_in_props rs) known))) (good.0).sorted),
+    list_fit (at + 1) names (replicate 8 0) r None,
     recipients_fit at (i + 1) rs low good.1 (messages.in_back names (names_in_props r) (flat_map names_in_props rs) known),
   )
 
   mutual
     unfolding NamesFit
 
-    message_fit : (at : ℕ) (b : Bool) (t : Message) → at + 2 * depth t ≤ 100 → HasPropLists t → HasFewParts t → messages.In names (names_in t) → NamesFit at (message_files names b t)
+    message_fit : (at : ℕ) (b : Bool) (t : Message) → at + 2 * depth t ≤ 67 → HasPropLists t → HasFewParts t → messages.In names (names_in t) → NamesFit at (message_files names b t)
     message_fit at b (message props rs all) low lists few_parts known =
-        join_fit at (list_files names (head_of b (length rs) (length (listed all))) props false) (and_files (recipient_files names 0 rs) (attachment_files names 0 all)) (list_fit at names (head_of b (length rs) (length (listed all))) props false)
+        join_fit at (list_files names (head_of b (length rs) (length (listed all))) props None) (and_files (recipient_files names 0 rs) (attachment_files names 0 all)) (list_fit at names (head_of b (length rs) (length (listed all))) props None)
         (join_fit at (recipient_files names 0 rs) (attachment_files names 0 all)
         (recipients_fit at 0 rs (omega (arith, low)) (every_of IsPropList IsPropList (λ x g. g) rs lists.1.0) (messages.recipients_known names props rs all known))
         (attachments_fit at 0 all low lists.1.1 few_parts.2 (messages.below_known names props rs all known)))
 
-    attachments_fit : (at i : ℕ) (all : Attachments) → at + 2 * depth_in all ≤ 100 → HavePropLists all → HaveFewParts all → messages.In names (names_below all) → NamesFit at (attachment_files names i all)
+    attachments_fit : (at i : ℕ) (all : Attachments) → at + 2 * depth_in all ≤ 67 → HavePropLists all → HaveFewParts all → messages.In names (names_below all) → NamesFit at (attachment_files names i all)
     attachments_fit at i no_more low lists few_parts known = tt
     attachments_fit at i (attached props body others) low lists few_parts known =
         let both : messages.In names (names_in_props props ++ names_in_body body) = messages.in_front names (names_in_props props ++ names_in_body body) (names_below others) known in
@@ -177,11 +188,11 @@ module _ (names : List Name) (few : length names ≤ 32000) where
           refl,
           omega (arith, low),
           files_apart (WrittenTrees.attachment_tree names props body) (WrittenTrees.attachment_apart names props body ready (lists.0).sorted),
-          join_fit (at + 1) (list_files names (replicate 8 0) props (is_embedded body)) (body_files names body) (list_fit (at + 1) names (replicate 8 0) props (is_embedded body)) (body_fit (at + 1) body (omega (arith, low)) lists.1.0 few_parts.0 (messages.in_back names (names_in_props props) (names_in_body body) both)),
+          join_fit (at + 1) (list_files names (replicate 8 0) props (object_word body)) (body_files names body) (list_fit (at + 1) names (replicate 8 0) props (object_word body)) (body_fit (at + 1) body (omega (arith, low)) lists.1.0 few_parts.0 (messages.in_back names (names_in_props props) (names_in_body body) both)),
           attachments_fit at (i + 1) others (omega (arith, low)) lists.1.1 few_parts.1 (messages.in_back names (names_in_props props ++ names_in_body body) (names_below others) known),
         )
 
-    body_fit : (at : ℕ) (body : Body) → at + 2 * depth_of_body body ≤ 101 → BodyHasPropLists body → BodyHasFewParts body → messages.In names (names_in_body body) → NamesFit at (body_files names body)
+    body_fit : (at : ℕ) (body : Body) → at + 2 * depth_of_body body ≤ 68 → BodyHasPropLists body → BodyHasFewParts body → messages.In names (names_in_body body) → NamesFit at (body_files names body)
     body_fit at nothing low lists few_parts known = tt
     body_fit at (embedded (message props rs all)) low lists few_parts known =
         let ready = WrittenTrees.all_ready names props few lists.0 (messages.among names props (messages.own_known names props rs all known)) in (
@@ -192,6 +203,14 @@ module _ (names : List Name) (few : length names ≤ 32000) where
           message_fit (at + 1) false (message props rs all) (omega (arith, low)) lists few_parts known,
           tt,
         )
+    body_fit at (stored store) low store_is few_parts known = (
+      value_named OBJECT_TAG,
+      store_is.class,
+      omega (arith, low),
+      in_order_apart store.members store_is.order,
+      members_fit (at + 1) store.members store_is.members (omega (arith, low, store_is.depth)),
+      tt,
+    )
 
 pub may_be_written : (t : Message) → IsTree t → length (names_of t) ≤ 32000 → HasFewParts t → StreamsFit (files_of t) → MayBeWritten (files_of t)
 unfolding NamesFit

@@ -185,19 +185,19 @@ entries_read part s head cs h long e =
 -- what stands in a list that is written: a property, or the entry of an embedded message
 data Piece : Type 0 where
   of_prop : (p : Prop) → Piece
-  of_message : Piece
+  of_object : (word : ℕ) → Piece
 
 abbrev piece_prop : Piece → Option Prop
 piece_prop (of_prop p) = Some p
-piece_prop of_message = None
+piece_prop (of_object word) = None
 
 abbrev chunk_of : List Name → Piece → Chunk
 chunk_of names (of_prop p) = (tag_of names p, value_field p.value)
-chunk_of names of_message = (OBJECT_TAG, le32 0xFFFFFFFF ++ le32 1)
+chunk_of names (of_object word) = (OBJECT_TAG, le32 0xFFFFFFFF ++ le32 word)
 
 abbrev piece_item : Piece → ℕ → Item
 piece_item (of_prop p) place = kept p
-piece_item of_message place = embedding place
+piece_item (of_object word) place = embedding place
 
 items_for : List PropEntry → List Piece → List Item
 items_for [] ps = []
@@ -207,13 +207,13 @@ items_for (e ∷ es) (piece ∷ ps) = piece_item piece e.place ∷ items_for es 
 -- a piece that is written in this part, whose streams are there
 PieceReady : Part → List Name → Streams → Piece → Type 0
 PieceReady part names streams (of_prop p) = Ready names p × AllByRecursion (HasStream streams) (value_streams (tag_of names p) p.value)
-PieceReady part names streams of_message = is_attachment part ≡ true
+PieceReady part names streams (of_object word) = is_attachment part ≡ true
 
 module _ (part : Part) (names : List Name) (streams : Streams) where
   piece_again : (e : PropEntry) (piece : Piece) → PieceReady part names streams piece → Read e (chunk_of names piece) → item_of part (pairs_from 0 names) streams e ≡ Ok (piece_item piece e.place)
   unfolding item_of PieceReady
   piece_again e (of_prop p) h r = item_again part names streams e p h.0 r.0 r.1 h.1
-  piece_again e of_message h r = cond-true (is_attachment part && (e.tag == ATTACHED_OBJECT)) _ _ (and_from (is_attachment part) (e.tag == ATTACHED_OBJECT) h (eq-eqb e.tag ATTACHED_OBJECT r.0))
+  piece_again e (of_object word) h r = cond-true (is_attachment part && (e.tag == ATTACHED_OBJECT)) _ _ (and_from (is_attachment part) (e.tag == ATTACHED_OBJECT) h (eq-eqb e.tag ATTACHED_OBJECT r.0))
 
   all_items : (es : List PropEntry) (ps : List Piece) → AllByRecursion (PieceReady part names streams) ps → AllZip Read es (map (chunk_of names) ps) → AllZip (λ e x. item_of part (pairs_from 0 names) streams e ≡ Ok x) es (items_for es ps)
   unfolding items_for
@@ -228,14 +228,14 @@ module _ (part : Part) (names : List Name) (streams : Streams) where
   items_props [] (p ∷ ps) r = absurd r
   items_props (e ∷ es) [] r = absurd r
   items_props (e ∷ es) (of_prop p ∷ ps) r = ap (λ (l : List Prop). p ∷ l) (items_props es ps r.1)
-  items_props (e ∷ es) (of_message ∷ ps) r = items_props es ps r.1
+  items_props (e ∷ es) (of_object word ∷ ps) r = items_props es ps r.1
 
   items_passed : (es : List PropEntry) (ps : List Piece) → filter_map passed_in (items_for es ps) ≡ []
   unfolding items_for
   items_passed [] ps = refl
   items_passed (e ∷ es) [] = refl
   items_passed (e ∷ es) (of_prop p ∷ ps) = items_passed es ps
-  items_passed (e ∷ es) (of_message ∷ ps) = items_passed es ps
+  items_passed (e ∷ es) (of_object word ∷ ps) = items_passed es ps
 
   no_message : (es : List PropEntry) (props : List Prop) → filter_map embedding_in (items_for es (map of_prop props)) ≡ []
   unfolding items_for
@@ -244,31 +244,31 @@ module _ (part : Part) (names : List Name) (streams : Streams) where
   no_message (e ∷ es) (p ∷ props) = no_message es props
 
   -- the place of the entry of a message, behind some properties and before others
-  one_message : (es : List PropEntry) (before after : List Prop) → AllZip Read es (map (chunk_of names) (map of_prop before ++ of_message ∷ map of_prop after)) → (place : ℕ) × (filter_map embedding_in (items_for es (map of_prop before ++ of_message ∷ map of_prop after)) ≡ place ∷ [])
+  one_message : (word : ℕ) (es : List PropEntry) (before after : List Prop) → AllZip Read es (map (chunk_of names) (map of_prop before ++ of_object word ∷ map of_prop after)) → (place : ℕ) × (filter_map embedding_in (items_for es (map of_prop before ++ of_object word ∷ map of_prop after)) ≡ place ∷ [])
   unfolding items_for
-  one_message [] [] after r = absurd r
-  one_message [] (p ∷ before) after r = absurd r
-  one_message (e ∷ es) [] after r = (e.place, ap (λ (l : List ℕ). e.place ∷ l) (no_message es after))
-  one_message (e ∷ es) (p ∷ before) after r = one_message es before after r.1
+  one_message word [] [] after r = absurd r
+  one_message word [] (p ∷ before) after r = absurd r
+  one_message word (e ∷ es) [] after r = (e.place, ap (λ (l : List ℕ). e.place ∷ l) (no_message es after))
+  one_message word (e ∷ es) (p ∷ before) after r = one_message word es before after r.1
 
 -- ---- a whole list
 
-abbrev pieces_of : List Prop → Bool → List Piece
-pieces_of props false = map of_prop props
-pieces_of props true = map of_prop (filter comes_before_object props) ++ of_message ∷ map of_prop (filter (λ p. not (comes_before_object p)) props)
+abbrev pieces_of : List Prop → Option ℕ → List Piece
+pieces_of props None = map of_prop props
+pieces_of props (Some word) = map of_prop (filter comes_before_object props) ++ of_object word ∷ map of_prop (filter (λ p. not (comes_before_object p)) props)
 
 chunked : (names : List Name) (props : List Prop) → flat_map (entry_bytes names) props ≡ flat_map chunk_bytes (map (chunk_of names) (map of_prop props))
 chunked names [] = refl
 chunked names (p ∷ props) = ap (λ (z : List ℕ). entry_bytes names p ++ z) (chunked names props)
 
-entries_chunked : (names : List Name) (props : List Prop) (inner : Bool) → entries_bytes names props inner ≡ flat_map chunk_bytes (map (chunk_of names) (pieces_of props inner))
-entries_chunked names props false = chunked names props
-entries_chunked names props true =
+entries_chunked : (names : List Name) (props : List Prop) (object : Option ℕ) → entries_bytes names props object ≡ flat_map chunk_bytes (map (chunk_of names) (pieces_of props object))
+entries_chunked names props None = chunked names props
+entries_chunked names props (Some word) =
     let before = filter comes_before_object props in
     let after = filter (λ p. not (comes_before_object p)) props in
-    (λ i. chunked names before i ++ (object_entry ++ chunked names after i))
-    ∙ sym (ap (flat_map chunk_bytes) (map-append (chunk_of names) (map of_prop before) (of_message ∷ map of_prop after))
-    ∙ flat_map-append chunk_bytes (map (chunk_of names) (map of_prop before)) (map (chunk_of names) (of_message ∷ map of_prop after)))
+    (λ i. chunked names before i ++ (object_entry word ++ chunked names after i))
+    ∙ sym (ap (flat_map chunk_bytes) (map-append (chunk_of names) (map of_prop before) (of_object word ∷ map of_prop after))
+    ∙ flat_map-append chunk_bytes (map (chunk_of names) (map of_prop before)) (map (chunk_of names) (of_object word ∷ map of_prop after)))
 
 abbrev FieldLong : ℕ → ℕ → Type 0
 FieldLong kind w = (bits : ℕ) → length (le_bytes w bits ++ replicate (8 - w) 0) ≡ 8
@@ -302,12 +302,12 @@ every_kept P test (p ∷ props) h = by (every_kept P test props h.1) (test p)
     by rest true = (h.0, rest)
     by rest false = rest
 
-every_of_list : (P : Piece → Type 0) (props : List Prop) (inner : Bool) → AllByRecursion (λ p. P (of_prop p)) props → (inner ≡ true → P of_message) → AllByRecursion P (pieces_of props inner)
-every_of_list P props false h m = every_piece P props h
-every_of_list P props true h m =
-    every_join P (map of_prop (filter comes_before_object props)) (of_message ∷ map of_prop (filter (λ p. not (comes_before_object p)) props))
+every_of_list : (P : Piece → Type 0) (props : List Prop) (object : Option ℕ) → AllByRecursion (λ p. P (of_prop p)) props → ((word : ℕ) → object ≡ Some word → P (of_object word)) → AllByRecursion P (pieces_of props object)
+every_of_list P props None h m = every_piece P props h
+every_of_list P props (Some word) h m =
+    every_join P (map of_prop (filter comes_before_object props)) (of_object word ∷ map of_prop (filter (λ p. not (comes_before_object p)) props))
     (every_piece P (filter comes_before_object props) (every_kept (λ p. P (of_prop p)) comes_before_object props h))
-    (m refl, every_piece P (filter (λ p. not (comes_before_object p)) props) (every_kept (λ p. P (of_prop p)) (λ p. not (comes_before_object p)) props h))
+    (m word refl, every_piece P (filter (λ p. not (comes_before_object p)) props) (every_kept (λ p. P (of_prop p)) (λ p. not (comes_before_object p)) props h))
 
 every_chunk : (names : List Name) (ps : List Piece) → AllByRecursion (λ p. IsChunk (chunk_of names p)) ps → AllByRecursion IsChunk (map (chunk_of names) ps)
 every_chunk names [] h = tt
@@ -326,12 +326,12 @@ parted test (p ∷ props) = by (parted test props) (test p)
     by rest true = IsPermutation-cons p (filter test props ++ filter (λ q. not (test q)) props) props rest
     by rest false = IsPermutation-trans (filter test props ++ p ∷ filter (λ q. not (test q)) props) (p ∷ (filter test props ++ filter (λ q. not (test q)) props)) (p ∷ props) (IsPermutation-middle (filter test props) p (filter (λ q. not (test q)) props)) (IsPermutation-cons p (filter test props ++ filter (λ q. not (test q)) props) props rest)
 
-pieces_permute : (props : List Prop) (inner : Bool) → IsPermutation (filter_map piece_prop (pieces_of props inner)) props
-pieces_permute props false = subst (λ (l : List Prop). IsPermutation l props) (sym (props_of_pieces props)) (IsPermutation-refl props)
-pieces_permute props true =
+pieces_permute : (props : List Prop) (object : Option ℕ) → IsPermutation (filter_map piece_prop (pieces_of props object)) props
+pieces_permute props None = subst (λ (l : List Prop). IsPermutation l props) (sym (props_of_pieces props)) (IsPermutation-refl props)
+pieces_permute props (Some word) =
     let before = filter comes_before_object props in
     let after = filter (λ p. not (comes_before_object p)) props in
-    let same : filter_map piece_prop (pieces_of props true) ≡ before ++ after = filter_map-append piece_prop (map of_prop before) (of_message ∷ map of_prop after) ∙ (λ i. props_of_pieces before i ++ props_of_pieces after i) in
+    let same : filter_map piece_prop (pieces_of props (Some word)) ≡ before ++ after = filter_map-append piece_prop (map of_prop before) (of_object word ∷ map of_prop after) ∙ (λ i. props_of_pieces before i ++ props_of_pieces after i) in
     subst (λ (l : List Prop). IsPermutation l props) (sym same) (parted comes_before_object props)
 
 -- each property of a list is ready, and its streams are there
@@ -361,29 +361,29 @@ every_prop_chunk : (names : List Name) (props : List Prop) → AllByRecursion (R
 every_prop_chunk names [] h = tt
 every_prop_chunk names (p ∷ props) h = (prop_chunk names p h.0, every_prop_chunk names props h.1)
 
-message_ready : (part : Part) (names : List Name) (streams : Streams) → is_attachment part ≡ true → PieceReady part names streams of_message
+message_ready : (part : Part) (names : List Name) (streams : Streams) (word : ℕ) → is_attachment part ≡ true → PieceReady part names streams (of_object word)
 unfolding PieceReady
-message_ready part names streams h = h
+message_ready part names streams word h = h
 
--- the entry of a message is there where it is written
-inner_place : (names : List Name) (es : List PropEntry) (props : List Prop) (inner : Bool) → AllZip Read es (map (chunk_of names) (pieces_of props inner)) → (o : Option ℕ) × ((is_some o ≡ inner) × (filter_map embedding_in (items_for es (pieces_of props inner)) ≡ option_list o))
-inner_place names es props false r = (None, (refl, no_message top names (λ name. None) es props))
-inner_place names es props true r = let (place, is) = one_message top names (λ name. None) es (filter comes_before_object props) (filter (λ p. not (comes_before_object p)) props) r in (Some place, (refl, is))
+-- the entry of an object is there where it is written
+inner_place : (names : List Name) (es : List PropEntry) (props : List Prop) (object : Option ℕ) → AllZip Read es (map (chunk_of names) (pieces_of props object)) → (o : Option ℕ) × ((is_some o ≡ is_some object) × (filter_map embedding_in (items_for es (pieces_of props object)) ≡ option_list o))
+inner_place names es props None r = (None, (refl, no_message top names (λ name. None) es props))
+inner_place names es props (Some word) r = let (place, is) = one_message top names (λ name. None) word es (filter comes_before_object props) (filter (λ p. not (comes_before_object p)) props) r in (Some place, (refl, is))
 
-pub list_read : (part : Part) (names : List Name) (place : ℕ) (streams : Streams) (props : List Prop) (inner : Bool) → length names ≤ 32000 → IsPropList props → NamesAmong names props → HasList part names streams props inner → IsReadAs (props_of part (pairs_from 0 names) place streams) props inner
-list_read part names place streams props inner few good known h =
+pub list_read : (part : Part) (names : List Name) (place : ℕ) (streams : Streams) (props : List Prop) (object : Option ℕ) → length names ≤ 32000 → IsPropList props → NamesAmong names props → HasList part names streams props object → IsReadAs (props_of part (pairs_from 0 names) place streams) props object
+list_read part names place streams props object few good known h =
     let each : AllByRecursion (Ready names) props = every_from (Ready names) props (λ p c. ready names p few (let (k, lt, e) = c in subst IsProp e (good.each k p lt)) (λ name e. known p name c e)) in
-    let pieces : List Piece = pieces_of props inner in
-    let all_ready : AllByRecursion (PieceReady part names streams) pieces = every_of_list (PieceReady part names streams) props inner (every_ready part names streams props each h.values) (λ e. message_ready part names streams (h.inside e)) in
-    let chunks : AllByRecursion IsChunk (map (chunk_of names) pieces) = every_chunk names pieces (every_of_list (λ p. IsChunk (chunk_of names p)) props inner (every_prop_chunk names props each) (λ e. (omega arith, refl))) in
+    let pieces : List Piece = pieces_of props object in
+    let all_ready : AllByRecursion (PieceReady part names streams) pieces = every_of_list (PieceReady part names streams) props object (every_ready part names streams props each h.values) (λ word e. message_ready part names streams word (h.inside (ap is_some e))) in
+    let chunks : AllByRecursion IsChunk (map (chunk_of names) pieces) = every_chunk names pieces (every_of_list (λ p. IsChunk (chunk_of names p)) props object (every_prop_chunk names props each) (λ word e. (omega arith, refl))) in
     let f : Found = h.list.f in
-    let bytes_are : f.stream.bytes ≡ h.head ++ flat_map chunk_bytes (map (chunk_of names) pieces) = h.list.bytes ∙ ap (λ (z : List ℕ). h.head ++ z) (entries_chunked names props inner) in
+    let bytes_are : f.stream.bytes ≡ h.head ++ flat_map chunk_bytes (map (chunk_of names) pieces) = h.list.bytes ∙ ap (λ (z : List ℕ). h.head ++ z) (entries_chunked names props object) in
     let read : AllZip Read (prop_entries part f.stream) (map (chunk_of names) pieces) = entries_read part f.stream h.head (map (chunk_of names) pieces) chunks h.long bytes_are in
     let items : List Item = items_for (prop_entries part f.stream) pieces in
-    let (o, (some, places)) = inner_place names (prop_entries part f.stream) props inner read in
+    let (o, (some, places)) = inner_place names (prop_entries part f.stream) props object read in
     let section : Section = record { props = props; embedded = o; passed = [] } in
-    let once : IsPermutation (filter_map prop_in items) props = subst (λ (l : List Prop). IsPermutation l props) (sym (items_props part names streams (prop_entries part f.stream) pieces read)) (pieces_permute props inner) in
-    let long : head_size part ≤ length f.stream.bytes = omega (arith, ap length h.list.bytes, length-append h.head (entries_bytes names props inner), h.long) in
+    let once : IsPermutation (filter_map prop_in items) props = subst (λ (l : List Prop). IsPermutation l props) (sym (items_props part names streams (prop_entries part f.stream) pieces read)) (pieces_permute props object) in
+    let long : head_size part ≤ length f.stream.bytes = omega (arith, ap length h.list.bytes, length-append h.head (entries_bytes names props object), h.long) in
     let meant : MsgProps part (pairs_from 0 names) streams section = record {
       f = f;
       there = h.list.there;

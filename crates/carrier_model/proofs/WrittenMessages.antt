@@ -5,23 +5,26 @@ use Rattle.std.specs.List.{AllByRecursion, AllZip, flat_map}
 use Rattle.std.proofs.lemmas.List.{append-nil}
 use Rattle.carrier_model.specs.Trail.{Fault}
 use Rattle.carrier_model.specs.Outcomes.{mapped}
-use Rattle.carrier_model.specs.Reasons.{TOO_DEEP, MISSING_STORAGE, OLE_STORAGE}
+use Rattle.carrier_model.specs.Reasons.{TOO_DEEP, MISSING_STORAGE}
 use Rattle.carrier_model.specs.Turns.{each, found}
-use Rattle.carrier_model.specs.FileTrees.{FileTree, sorted}
-use Rattle.carrier_model.specs.LayoutHolds.{bare, classless}
+use Rattle.carrier_model.specs.FileTrees.{FileTree, sorted, NO_CLASS}
 use Rattle.carrier_model.specs.Files.{Files}
 use Rattle.carrier_model.specs.Lookups.{stream_named, storage_named}
 use Rattle.carrier_model.specs.Keys.{Name, Key, id, named}
 use Rattle.carrier_model.specs.Values.{Prop}
 use Rattle.carrier_model.specs.Trees.{IsPropList, HasPropLists, HavePropLists, BodyHasPropLists}
-use Rattle.carrier_model.specs.Tree.{Message, message, Attachments, no_more, attached, Body, nothing, embedded, Attached, attachments_from, listed, depth, depth_in, depth_of_body, names_in, names_in_props, names_below, names_in_body, name_in}
+use Rattle.carrier_model.specs.Tree.{Message, message, Attachments, no_more, attached, Body, nothing, embedded, stored, Attached, attachments_from, listed, depth, depth_in, depth_of_body, names_in, names_in_props, names_below, names_in_body, name_in}
+use Rattle.carrier_model.specs.TnefMessage.{held_message, held_store}
 use Rattle.carrier_model.specs.NameMap.{Pair, pairs_from}
 use Rattle.carrier_model.specs.MsgProps.{Part, embedded_message, recipient, attachment, head_size, is_attachment, Section}
-use Rattle.carrier_model.specs.MsgMessage.{RECIPIENT_NAME, ATTACHMENT_NAME, numbered, list_in, Carried, meaning_of, Inner, embedded_in, body_in, attachment_in, message_with, message_in}
+use Rattle.carrier_model.specs.MsgMessage.{RECIPIENT_NAME, ATTACHMENT_NAME, numbered, list_in, Carried, meaning_of, Inner, held_by, held_in, body_in, attachment_in, message_with, message_in}
 use Rattle.carrier_model.specs.WrittenNames.{value_name}
-use Rattle.carrier_model.specs.WrittenMsg.{PROPERTIES, OBJECT_TAG, list_files, body_files, message_files, head_of}
+use Rattle.carrier_model.specs.WrittenMsg.{OBJECT_TAG, list_files, body_files, message_files, head_of}
+use Rattle.carrier_model.specs.Stores.{PROPERTIES, bare, IsStore}
 use Rattle.carrier_model.specs.ReadBack.{NamesAmong, IsReadAs, HasFewParts, HaveFewParts, BodyHasFewParts}
-use Rattle.carrier_model.proofs.Turns.{bind_from, check_from, each-only}
+use Rattle.carrier_model.proofs.StoreLaws.{store_in-only}
+use Rattle.carrier_model.proofs.StoreWritten.{found_store, found_no_message}
+use Rattle.carrier_model.proofs.Turns.{bind_from, each-only}
 use Rattle.carrier_model.proofs.WrittenLists.{list_read}
 use Rattle.carrier_model.proofs.WrittenChildren.{Entry, folder, entries, FoundAs, found_as, Apart, storage_found, numbered_entry, numbers, numbered_found, Counting}
 use Rattle.carrier_model.proofs.CanonicalTnef.{from_listed}
@@ -66,11 +69,11 @@ among names (x ∷ props) h p name (suc i, lt, q) e = among names props (in_back
 plain : List Prop → Option ℕ → Section
 plain props o = record { props = props; embedded = o; passed = [] }
 
-abbrev Gives : Result Section Fault → List Prop → Bool → Type 0
-Gives r props inner = (o : Option ℕ) × ((is_some o ≡ inner) × (r ≡ Ok (record { props = props; embedded = o; passed = [] })))
+abbrev Gives : Result Section Fault → List Prop → Option ℕ → Type 0
+Gives r props object = (o : Option ℕ) × ((is_some o ≡ is_some object) × (r ≡ Ok (record { props = props; embedded = o; passed = [] })))
 
-gives : (r : Result Section Fault) (props : List Prop) (inner : Bool) → IsReadAs r props inner → Gives r props inner
-gives r props inner h =
+gives : (r : Result Section Fault) (props : List Prop) (object : Option ℕ) → IsReadAs r props object → Gives r props object
+gives r props object h =
     let same : h.section ≡ record { props = props; embedded = h.section.embedded; passed = [] } = λ i. record { props = h.props_are i; embedded = h.section.embedded; passed = h.passed i } in
     (h.section.embedded, (h.embedded, h.read ∙ ap Ok same))
 
@@ -87,23 +90,23 @@ module _ (names : List Name) (few : length names ≤ 32000) where
   pairs = pairs_from 0 names
 
   -- the list of a storage whose children are a list and others
-  list_given : (s : Files) (f : FileTree) (part : Part) (head : List ℕ) (props : List Prop) (inner : Bool) (before after : List Entry) → FoundAs s.children f → Apart f → length head ≡ head_size part → (inner ≡ true → is_attachment part ≡ true) → IsPropList props → NamesAmong names props
-      → entries f ≡ before ++ (WrittenTrees.list_entries names head props inner ++ after) → Gives (list_in part (pairs_from 0 names) s) props inner
-  list_given s f part head props inner before after h d long inside good known e =
-      gives (list_in part (pairs_from 0 names) s) props inner (list_read part names s.place (stream_named s.children) props inner few good known (WrittenTrees.list_there s.children f part names head props inner before after h d long inside e))
+  list_given : (s : Files) (f : FileTree) (part : Part) (head : List ℕ) (props : List Prop) (object : Option ℕ) (before after : List Entry) → FoundAs s.children f → Apart f → length head ≡ head_size part → (is_some object ≡ true → is_attachment part ≡ true) → IsPropList props → NamesAmong names props
+      → entries f ≡ before ++ (WrittenTrees.list_entries names head props object ++ after) → Gives (list_in part (pairs_from 0 names) s) props object
+  list_given s f part head props object before after h d long inside good known e =
+      gives (list_in part (pairs_from 0 names) s) props object (list_read part names s.place (stream_named s.children) props object few good known (WrittenTrees.list_there s.children f part names head props object before after h d long inside e))
 
   -- ---- recipients
 
-  recipient_given : (s : Files) (props : List Prop) → IsPropList props → NamesAmong names props → bare s.children ≡ classless (sorted (list_files names (replicate 8 0) props false)) → list_in recipient (pairs_from 0 names) s ≡ Ok (record { props = props; embedded = None; passed = [] })
+  recipient_given : (s : Files) (props : List Prop) → IsPropList props → NamesAmong names props → bare s.children ≡ sorted (list_files names (replicate 8 0) props None) → list_in recipient (pairs_from 0 names) s ≡ Ok (record { props = props; embedded = None; passed = [] })
   recipient_given s props good known e =
-      let f : FileTree = list_files names (replicate 8 0) props false in
-      let (o, (none, is)) = list_given s f recipient (replicate 8 0) props false [] [] (found_as s.children f e) (WrittenTrees.recipient_apart names (replicate 8 0) props false (WrittenTrees.all_ready names props few good known) good.sorted) refl (λ q. absurd cc) good known (sym (append-nil (entries f))) in
+      let f : FileTree = list_files names (replicate 8 0) props None in
+      let (o, (none, is)) = list_given s f recipient (replicate 8 0) props None [] [] (found_as s.children f e) (WrittenTrees.recipient_apart names (replicate 8 0) props None (WrittenTrees.all_ready names props few good known) good.sorted) refl (λ q. absurd cc) good known (sym (append-nil (entries f))) in
       is ∙ ap (λ p. Ok (record { props = props; embedded = p; passed = [] })) (no_place o none)
 
   abbrev sections : List (List Prop) → List Section
   sections rs = map (λ props. record { props = props; embedded = None; passed = [] }) rs
 
-  recipients_given : (ss : List Files) (i : ℕ) (rs : List (List Prop)) → AllByRecursion IsPropList rs → In names (flat_map names_in_props rs) → AllZip (λ (r : Files) inside. bare r.children ≡ classless (sorted inside)) ss (map (λ p. p.1) (WrittenTrees.recipients_from names i rs)) → AllZip (λ r l. list_in recipient (pairs_from 0 names) r ≡ Ok l) ss (sections rs)
+  recipients_given : (ss : List Files) (i : ℕ) (rs : List (List Prop)) → AllByRecursion IsPropList rs → In names (flat_map names_in_props rs) → AllZip (λ (r : Files) inside. bare r.children ≡ sorted inside) ss (map (λ p. p.1) (WrittenTrees.recipients_from names i rs)) → AllZip (λ r l. list_in recipient (pairs_from 0 names) r ≡ Ok l) ss (sections rs)
   recipients_given [] i [] good known z = tt
   recipients_given [] i (r ∷ rs) good known z = absurd z
   recipients_given (s ∷ ss) i [] good known z = absurd z
@@ -124,54 +127,70 @@ module _ (names : List Name) (few : length names ≤ 32000) where
   abbrev BodyFine : ℕ → Body → Type 0
   BodyFine n nothing = Unit {0}
   BodyFine n (embedded t) = (m : ℕ) × ((n ≡ suc m) × Fine m t)
+  BodyFine n (stored x) = IsStore x
 
-  message_listed : (n : ℕ) (t : Message) → Fine n t → (s : Files) → bare s.children ≡ classless (sorted (message_files names false t)) → is_some (stream_named s.children PROPERTIES) ≡ true
+  message_listed : (n : ℕ) (t : Message) → Fine n t → (s : Files) → bare s.children ≡ sorted (message_files names false t) → is_some (stream_named s.children PROPERTIES) ≡ true
   message_listed n (message props rs all) fine s e =
       let f : FileTree = message_files names false (message props rs all) in
       let good : IsPropList props = fine.lists.0 in
       let known : NamesAmong names props = among names props (own_known names props rs all fine.known) in
       let d : Apart f = WrittenTrees.message_apart names false props rs all (WrittenTrees.all_ready names props few good known) good.sorted fine.parts.0 fine.parts.1 in
-      let there = WrittenTrees.list_there s.children f embedded_message names (head_of false (length rs) (length (listed all))) props false [] (WrittenTrees.rest_entries names rs all) (found_as s.children f e) d refl (λ q. absurd cc) (WrittenTrees.message_entries names false props rs all) in
+      let there = WrittenTrees.list_there s.children f embedded_message names (head_of false (length rs) (length (listed all))) props None [] (WrittenTrees.rest_entries names rs all) (found_as s.children f e) d refl (λ q. absurd cc) (WrittenTrees.message_entries names false props rs all) in
       ap is_some there.list.there
 
-  module _ (n : ℕ) (inner : Inner) (deep : (m : ℕ) → n ≡ suc m → (t : Message) → Fine m t → (place : ℕ) (s : Files) → bare s.children ≡ classless (sorted (message_files names false t)) → inner place s ≡ Ok (record { message = t; passed = [] })) where
+  module _ (n : ℕ) (inner : Inner) (deep : (m : ℕ) → n ≡ suc m → (t : Message) → Fine m t → (place : ℕ) (s : Files) → bare s.children ≡ sorted (message_files names false t) → inner place s ≡ Ok (record { message = t; passed = [] })) where
     abbrev given : List Prop → Body → Carried
     given props body = record { attached = (props, body); passed = [] }
 
-    attachment_given : (s : Files) (props : List Prop) (body : Body) → IsPropList props → NamesAmong names props → BodyFine n body → bare s.children ≡ classless (sorted (WrittenTrees.attachment_tree names props body)) → attachment_in (pairs_from 0 names) inner s ≡ Ok (record { attached = (props, body); passed = [] })
-    unfolding attachment_in body_in embedded_in
+    attachment_given : (s : Files) (props : List Prop) (body : Body) → IsPropList props → NamesAmong names props → BodyFine n body → bare s.children ≡ sorted (WrittenTrees.attachment_tree names props body) → attachment_in (pairs_from 0 names) inner s ≡ Ok (record { attached = (props, body); passed = [] })
+    unfolding attachment_in body_in held_in
     attachment_given s props nothing good known fine e =
         let f : FileTree = WrittenTrees.attachment_tree names props nothing in
         let d : Apart f = WrittenTrees.attachment_apart names props nothing (WrittenTrees.all_ready names props few good known) good.sorted in
-        let (o, (none, is)) = list_given s f attachment (replicate 8 0) props false [] [] (found_as s.children f e) d refl (λ q. refl) good known (WrittenTrees.attachment_entries names props nothing) in
+        let (o, (none, is)) = list_given s f attachment (replicate 8 0) props None [] [] (found_as s.children f e) d refl (λ q. refl) good known (WrittenTrees.attachment_entries names props nothing) in
         bind_from (list_in attachment (pairs_from 0 names) s) _ (record { props = props; embedded = None; passed = [] }) (is ∙ ap (λ p. Ok (record { props = props; embedded = p; passed = [] })) (no_place o none))
     attachment_given s props (embedded t) good known (m, (more, fine)) e =
         let f : FileTree = WrittenTrees.attachment_tree names props (embedded t) in
         let d : Apart f = WrittenTrees.attachment_apart names props (embedded t) (WrittenTrees.all_ready names props few good known) good.sorted in
         let h = found_as s.children f e in
-        let own : List Entry = WrittenTrees.list_entries names (replicate 8 0) props true in
-        let (o, (some, is)) = list_given s f attachment (replicate 8 0) props true [] (entries (body_files names (embedded t))) h d refl (λ q. refl) good known (WrittenTrees.attachment_entries names props (embedded t)) in
+        let own : List Entry = WrittenTrees.list_entries names (replicate 8 0) props (Some 1) in
+        let (o, (some, is)) = list_given s f attachment (replicate 8 0) props (Some 1) [] (entries (body_files names (embedded t))) h d refl (λ q. refl) good known (WrittenTrees.attachment_entries names props (embedded t)) in
         let (place, there) = some_place o some in
-        let put : Contains (entries f) (folder (value_name OBJECT_TAG) (message_files names false t)) = subst (λ (l : List Entry). Contains l (folder (value_name OBJECT_TAG) (message_files names false t))) (sym (WrittenTrees.attachment_entries names props (embedded t))) (in_right own (entries (body_files names (embedded t))) (folder (value_name OBJECT_TAG) (message_files names false t)) (zero, omega arith, refl)) in
-        let st = storage_found s.children f h d (value_name OBJECT_TAG) (message_files names false t) put in
+        let put : Contains (entries f) (folder (value_name OBJECT_TAG) NO_CLASS (message_files names false t)) = subst (λ (l : List Entry). Contains l (folder (value_name OBJECT_TAG) NO_CLASS (message_files names false t))) (sym (WrittenTrees.attachment_entries names props (embedded t))) (in_right own (entries (body_files names (embedded t))) (folder (value_name OBJECT_TAG) NO_CLASS (message_files names false t)) (zero, omega arith, refl)) in
+        let st = storage_found s.children f h d (value_name OBJECT_TAG) NO_CLASS (message_files names false t) put in
         bind_from (list_in attachment (pairs_from 0 names) s) _ (record { props = props; embedded = Some place; passed = [] }) (is ∙ ap (λ p. Ok (record { props = props; embedded = p; passed = [] })) there)
-        ∙ bind_from (body_in inner s (Some place)) _ (Some (record { message = t; passed = [] })) (ap (mapped Some) (
+        ∙ bind_from (body_in inner s (Some place)) _ (Some (held_message (record { message = t; passed = [] }))) (ap (mapped Some) (
         bind_from (found (storage_named s.children (value_name OBJECT_TAG)) (MISSING_STORAGE, place)) _ st.s (ap (λ x. found x (MISSING_STORAGE, place)) st.there)
-        ∙ (check_from (is_some (stream_named st.s.children PROPERTIES)) OLE_STORAGE place _ (message_listed m t fine st.s st.holds)
-        ∙ deep m more t fine place st.s st.holds)))
+        ∙ (ap (λ b. held_by inner b place st.s) (message_listed m t fine st.s st.holds)
+        ∙ ap (mapped held_message) (deep m more t fine place st.s st.holds))))
+    attachment_given s props (stored x) good known fine e =
+        let f : FileTree = WrittenTrees.attachment_tree names props (stored x) in
+        let d : Apart f = WrittenTrees.attachment_apart names props (stored x) (WrittenTrees.all_ready names props few good known) good.sorted in
+        let h = found_as s.children f e in
+        let own : List Entry = WrittenTrees.list_entries names (replicate 8 0) props (Some 4) in
+        let (o, (some, is)) = list_given s f attachment (replicate 8 0) props (Some 4) [] (entries (body_files names (stored x))) h d refl (λ q. refl) good known (WrittenTrees.attachment_entries names props (stored x)) in
+        let (place, there) = some_place o some in
+        let put : Contains (entries f) (folder (value_name OBJECT_TAG) x.class x.members) = subst (λ (l : List Entry). Contains l (folder (value_name OBJECT_TAG) x.class x.members)) (sym (WrittenTrees.attachment_entries names props (stored x))) (in_right own (entries (body_files names (stored x))) (folder (value_name OBJECT_TAG) x.class x.members) (zero, omega arith, refl)) in
+        let st = storage_found s.children f h d (value_name OBJECT_TAG) x.class x.members put in
+        bind_from (list_in attachment (pairs_from 0 names) s) _ (record { props = props; embedded = Some place; passed = [] }) (is ∙ ap (λ p. Ok (record { props = props; embedded = p; passed = [] })) there)
+        ∙ bind_from (body_in inner s (Some place)) _ (Some (held_store x)) (ap (mapped Some) (
+        bind_from (found (storage_named s.children (value_name OBJECT_TAG)) (MISSING_STORAGE, place)) _ st.s (ap (λ y. found y (MISSING_STORAGE, place)) st.there)
+        ∙ (ap (λ b. held_by inner b place st.s) (found_no_message st.s x fine st.holds)
+        ∙ ap (mapped held_store) (store_in-only st.s x (found_store st.s x fine st.class_is st.holds)))))
 
     abbrev givens : List Attached → List Carried
     givens l = map (λ a. record { attached = a; passed = [] }) l
 
     body_fine : (body : Body) → depth_of_body body ≤ n → BodyHasPropLists body → BodyHasFewParts body → In names (names_in_body body) → BodyFine n body
     body_fine nothing levels lists parts known = tt
+    body_fine (stored x) levels lists parts known = lists
     body_fine (embedded t) levels lists parts known = by n refl
       where
         by : (k : ℕ) → n ≡ k → BodyFine n (embedded t)
         by zero e = absurd (omega (arith, levels, e))
         by (suc m) e = (m, (e, record { levels = omega (arith, levels, e); lists = lists; parts = parts; known = known }))
 
-    attachments_given : (ss : List Files) (i : ℕ) (all : Attachments) → depth_in all ≤ n → HavePropLists all → HaveFewParts all → In names (names_below all) → AllZip (λ (r : Files) inside. bare r.children ≡ classless (sorted inside)) ss (map (λ p. p.1) (WrittenTrees.trees_from names i all)) → AllZip (λ r a. attachment_in (pairs_from 0 names) inner r ≡ Ok a) ss (givens (listed all))
+    attachments_given : (ss : List Files) (i : ℕ) (all : Attachments) → depth_in all ≤ n → HavePropLists all → HaveFewParts all → In names (names_below all) → AllZip (λ (r : Files) inside. bare r.children ≡ sorted inside) ss (map (λ p. p.1) (WrittenTrees.trees_from names i all)) → AllZip (λ r a. attachment_in (pairs_from 0 names) inner r ≡ Ok a) ss (givens (listed all))
     attachments_given [] i no_more levels lists parts known z = tt
     attachments_given [] i (attached props body others) levels lists parts known z = absurd z
     attachments_given (s ∷ ss) i no_more levels lists parts known z = absurd z
@@ -207,12 +226,12 @@ module _ (names : List Name) (few : length names ≤ 32000) where
         let head : List ℕ = head_of b (length rs) (length (listed all)) in
         let good : IsPropList props = fine.lists.0 in
         let known : NamesAmong names props = among names props (own_known names props rs all fine.known) in
-        let whole : entries f ≡ before ++ (WrittenTrees.list_entries names head props false ++ WrittenTrees.rest_entries names rs all) = e ∙ ap (λ z. before ++ z) (WrittenTrees.message_entries names b props rs all) in
-        let (o, (none, own)) = list_given s f part head props false before (WrittenTrees.rest_entries names rs all) h d (long (length rs) (length (listed all))) (λ q. absurd cc) good known whole in
+        let whole : entries f ≡ before ++ (WrittenTrees.list_entries names head props None ++ WrittenTrees.rest_entries names rs all) = e ∙ ap (λ z. before ++ z) (WrittenTrees.message_entries names b props rs all) in
+        let (o, (none, own)) = list_given s f part head props None before (WrittenTrees.rest_entries names rs all) h d (long (length rs) (length (listed all))) (λ q. absurd cc) good known whole in
         let recipient_list : numbers RECIPIENT_NAME f ≡ WrittenTrees.recipients_from names 0 rs = ap (filter_map (numbered_entry RECIPIENT_NAME)) whole ∙ WrittenTrees.message_recipients names before head props rs all no_recipient fine.parts.0 in
         let attachment_list : numbers ATTACHMENT_NAME f ≡ WrittenTrees.trees_from names 0 all = ap (filter_map (numbered_entry ATTACHMENT_NAME)) whole ∙ WrittenTrees.message_attachments names before head props rs all no_attachment fine.parts.1 in
-        let rz = subst (λ l. AllZip (λ (r : Files) inside. bare r.children ≡ classless (sorted inside)) (numbered RECIPIENT_NAME s) (map (λ p. p.1) l)) recipient_list (numbered_found RECIPIENT_NAME s f h (subst (Counting 0) (sym recipient_list) (WrittenTrees.recipients_count names 0 rs))) in
-        let az = subst (λ l. AllZip (λ (r : Files) inside. bare r.children ≡ classless (sorted inside)) (numbered ATTACHMENT_NAME s) (map (λ p. p.1) l)) attachment_list (numbered_found ATTACHMENT_NAME s f h (subst (Counting 0) (sym attachment_list) (WrittenTrees.trees_count names 0 all))) in
+        let rz = subst (λ l. AllZip (λ (r : Files) inside. bare r.children ≡ sorted inside) (numbered RECIPIENT_NAME s) (map (λ p. p.1) l)) recipient_list (numbered_found RECIPIENT_NAME s f h (subst (Counting 0) (sym recipient_list) (WrittenTrees.recipients_count names 0 rs))) in
+        let az = subst (λ l. AllZip (λ (r : Files) inside. bare r.children ≡ sorted inside) (numbered ATTACHMENT_NAME s) (map (λ p. p.1) l)) attachment_list (numbered_found ATTACHMENT_NAME s f h (subst (Counting 0) (sym attachment_list) (WrittenTrees.trees_count names 0 all))) in
         let recipients_read = each-only (list_in recipient (pairs_from 0 names)) (numbered RECIPIENT_NAME s) (sections rs) (recipients_given (numbered RECIPIENT_NAME s) 0 rs (every_of IsPropList IsPropList (λ x g. g) rs fine.lists.1.0) (recipients_known names props rs all fine.known) rz) in
         let attachments_read = each-only (attachment_in (pairs_from 0 names) inner) (numbered ATTACHMENT_NAME s) (givens (listed all)) (attachments_given (numbered ATTACHMENT_NAME s) 0 all fine.levels fine.lists.1.1 fine.parts.2 (below_known names props rs all fine.known) az) in
         let meaning : meaning_of (record { props = props; embedded = None; passed = [] }) (sections rs) (givens (listed all)) ≡ record { message = message props rs all; passed = [] } =

@@ -4,22 +4,23 @@ use Rattle.std.specs.Prelude.{Contains, All, filter}
 use Rattle.std.specs.List.{AllByRecursion, IsDistinct, flat_map, range_with_len}
 use Rattle.carrier_model.specs.FileTrees.{FileTree, NO_CLASS, sorted}
 use Rattle.carrier_model.specs.Files.{Files}
-use Rattle.carrier_model.specs.LayoutHolds.{bare, classless, HoldsLaidOut}
+use Rattle.carrier_model.specs.LayoutHolds.{HoldsLaidOut}
+use Rattle.carrier_model.specs.Stores.{bare}
 use Rattle.carrier_model.specs.Lookups.{same_name, stream_named}
 use Rattle.carrier_model.specs.Keys.{Name, Key, id, named, name_cmp, IsName, IsKey}
 use Rattle.carrier_model.specs.Values.{Prop, IsProp}
 use Rattle.carrier_model.specs.Trees.{HasUnits, KeyHasUnits, IsPropList, HasPropLists, HavePropLists, BodyHasPropLists, IsTree}
-use Rattle.carrier_model.specs.Tree.{Message, message, Attachments, no_more, attached, Body, nothing, embedded, names_in, names_in_props, names_below, names_in_body, name_in, names_of}
+use Rattle.carrier_model.specs.Tree.{Message, message, Attachments, no_more, attached, Body, nothing, embedded, stored, names_in, names_in_props, names_below, names_in_body, name_in, names_of}
 use Rattle.carrier_model.specs.TnefMessage.{Passed, Meaning, GREATEST_LEVEL}
 use Rattle.carrier_model.specs.NameMap.{pairs_of, pairs_from}
 use Rattle.carrier_model.specs.MsgValues.{Streams}
 use Rattle.carrier_model.specs.MsgProps.{top}
 use Rattle.carrier_model.specs.MsgMessage.{NAME_MAP, streams_of, stream_or_empty, name_streams_in, name_streams, files_meaning, MsgCarrier, MsgFault}
 use Rattle.carrier_model.specs.WrittenNames.{value_name, name_map_files, hash_stream, hash_streams, has_bytes, sets_of, entries_from, text_stream}
-use Rattle.carrier_model.specs.WrittenMsg.{files_of}
+use Rattle.carrier_model.specs.WrittenMsg.{files_of, msg_in}
 use Rattle.carrier_model.specs.ReadBack.{HasStream, AreNames, HasNameMap, HasFewParts}
 use Rattle.carrier_model.proofs.Orders.{name_exact}
-use Rattle.carrier_model.specs.Layout.{msg_of}
+use Rattle.carrier_model.specs.Layout.{MESSAGE_CLASS}
 use Rattle.carrier_model.specs.Trail.{Fault}
 use Rattle.carrier_model.proofs.MsgMessage.{files_meaning-sound, carriers_exact}
 use Rattle.carrier_model.proofs.Turns.{bind_from}
@@ -65,6 +66,7 @@ mutual
   body_names : (body : Body) → BodyHasPropLists body → AllByRecursion NameOk (names_in_body body)
   body_names nothing h = tt
   body_names (embedded inner) h = message_names inner h
+  body_names (stored store) h = tt
 
 are_names : (t : Message) → HasPropLists t → length (names_of t) ≤ 32000 → AreNames (names_of t)
 unfolding NameOk
@@ -126,9 +128,9 @@ map_apart names =
 bytes_there : (streams : Streams) (one : List ℕ × List ℕ) → HasStream streams one → (stream_or_empty (streams one.0)).bytes ≡ one.1
 bytes_there streams one h = ap (λ o. (stream_or_empty o).bytes) h.there ∙ h.bytes
 
-map_there : (names : List Name) (root : Files) (f : FileTree) → FoundAs root.children f → Apart f → Contains (entries f) (folder NAME_MAP (name_map_files names)) → HasNameMap (name_streams root) names
+map_there : (names : List Name) (root : Files) (f : FileTree) → FoundAs root.children f → Apart f → Contains (entries f) (folder NAME_MAP NO_CLASS (name_map_files names)) → HasNameMap (name_streams root) names
 map_there names root f h d put =
-    let st = storage_found root.children f h d NAME_MAP (name_map_files names) put in
+    let st = storage_found root.children f h d NAME_MAP NO_CLASS (name_map_files names) put in
     let g : FoundAs st.s.children (name_map_files names) = found_as st.s.children (name_map_files names) st.holds in
     let e = WrittenTrees.entries_streams (map_streams names) in
     let there : (k : ℕ) (one : List ℕ × List ℕ) → Contains (map_streams names) one → HasStream (stream_named st.s.children) one = λ k one c. stream_found st.s.children (name_map_files names) g (map_apart names) one.0 one.1 (subst (λ (l : List Entry). Contains l (file one.0 one.1)) (sym e) (WrittenTrees.in_map WrittenTrees.file_of (map_streams names) one c)) in
@@ -139,7 +141,7 @@ map_there names root f h d put =
       texts = bytes_there (stream_named st.s.children) (value_name 0x00040102, text_stream names) (there 2 (value_name 0x00040102, text_stream names) (2, omega arith, refl));
     })
 
-pub written_read : (t : Message) (root : Files) → IsTree t → length (names_of t) ≤ 32000 → HasFewParts t → bare root.children ≡ classless (sorted (files_of t)) → files_meaning root ≡ Ok (record { message = t; passed = [] })
+pub written_read : (t : Message) (root : Files) → IsTree t → length (names_of t) ≤ 32000 → HasFewParts t → bare root.children ≡ sorted (files_of t) → files_meaning root ≡ Ok (record { message = t; passed = [] })
 unfolding files_meaning
 written_read t root tree few parts e =
     let names : List Name = names_of t in
@@ -149,7 +151,7 @@ written_read t root tree few parts e =
     let d : Apart f = root_apart t few fine in
     let map_of : HasNameMap (name_streams root) names = map_there names root f h d (zero, omega arith, refl) in
     bind_from (pairs_of (name_streams root)) _ (pairs_from 0 names) (names_read (name_streams root) names (are_names t tree.lists few) map_of)
-    ∙ messages.message_read names few GREATEST_LEVEL top true t root f (folder NAME_MAP (name_map_files names) ∷ []) (λ i j. refl) fine h d refl refl refl
+    ∙ messages.message_read names few GREATEST_LEVEL top true t root f (folder NAME_MAP NO_CLASS (name_map_files names) ∷ []) (λ i j. refl) fine h d refl refl refl
   where
     root_apart : (u : Message) (some : length (names_of u) ≤ 32000) → messages.Fine (names_of u) some GREATEST_LEVEL u → Apart (files_of u)
     root_apart (message props rs all) some fine =
@@ -159,17 +161,17 @@ written_read t root tree few parts e =
 
 -- ---- the file
 
-pub canonical_carries : (t : Message) → IsTree t → length (names_of t) ≤ 32000 → HasFewParts t → HoldsLaidOut 512 (files_of t) → MsgCarrier 512 (msg_of t) t []
-canonical_carries t tree few parts h = record {
+pub canonical_carries : (z : ℕ) (t : Message) → IsTree t → length (names_of t) ≤ 32000 → HasFewParts t → HoldsLaidOut z MESSAGE_CLASS (files_of t) → MsgCarrier (msg_in z t) t []
+canonical_carries z t tree few parts h = record {
   root = h.found;
   holds = h.holds;
   means = files_meaning-sound h.found (record { message = t; passed = [] }) (written_read t h.found tree few parts h.same);
 }
 
-pub canonical_alone : (t other : Message) (passed : List Passed) → IsTree t → length (names_of t) ≤ 32000 → HasFewParts t → HoldsLaidOut 512 (files_of t) → length (msg_of t) ≤ 268435456 → MsgCarrier 512 (msg_of t) other passed → (other ≡ t) × (passed ≡ [])
-canonical_alone t other passed tree few parts h short m =
-    let same : record { message = other; passed = passed } ≡ record { message = t; passed = [] } = (carriers_exact 512 (msg_of t) refl short).one (record { message = t; passed = [] }) (record { message = other; passed = passed }) (canonical_carries t tree few parts h) m in
+pub canonical_alone : (z : ℕ) (t other : Message) (passed : List Passed) → IsTree t → length (names_of t) ≤ 32000 → HasFewParts t → HoldsLaidOut z MESSAGE_CLASS (files_of t) → length (msg_in z t) ≤ 268435456 → MsgCarrier (msg_in z t) other passed → (other ≡ t) × (passed ≡ [])
+canonical_alone z t other passed tree few parts h short m =
+    let same : record { message = other; passed = passed } ≡ record { message = t; passed = [] } = (carriers_exact (msg_in z t) short).one (record { message = t; passed = [] }) (record { message = other; passed = passed }) (canonical_carries z t tree few parts h) m in
     (ap (λ (x : Meaning). x.message) same, ap (λ (x : Meaning). x.passed) same)
 
-pub canonical_faultless : (t : Message) (g : Fault) → IsTree t → length (names_of t) ≤ 32000 → HasFewParts t → HoldsLaidOut 512 (files_of t) → length (msg_of t) ≤ 268435456 → MsgFault 512 (msg_of t) g → ⊥
-canonical_faultless t g tree few parts h short e = (carriers_exact 512 (msg_of t) refl short).apart (record { message = t; passed = [] }) g (canonical_carries t tree few parts h) e
+pub canonical_faultless : (z : ℕ) (t : Message) (g : Fault) → IsTree t → length (names_of t) ≤ 32000 → HasFewParts t → HoldsLaidOut z MESSAGE_CLASS (files_of t) → length (msg_in z t) ≤ 268435456 → MsgFault (msg_in z t) g → ⊥
+canonical_faultless z t g tree few parts h short e = (carriers_exact (msg_in z t) short).apart (record { message = t; passed = [] }) g (canonical_carries z t tree few parts h) e

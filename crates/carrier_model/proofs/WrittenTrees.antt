@@ -1,6 +1,6 @@
 -- The children of the storages of a .msg file that is written: their names differ, and their lists are there.
-use Rattle.std.proofs.Common.{◌≡◌, ℕ, zero, suc, ◌+◌, ◌<◌, ◌≤◌, ◌^◌, Bool, true, false, List, [], ◌∷◌, ◌++◌, length, map, drop, replicate, Some, refl, sym, ap, subst, ◌∙◌, arith}
-use Rattle.std.specs.Prelude.{Contains, filter_map}
+use Rattle.std.proofs.Common.{◌≡◌, ℕ, zero, suc, ◌+◌, ◌<◌, ◌≤◌, ◌^◌, Bool, true, false, List, [], ◌∷◌, ◌++◌, length, map, drop, replicate, Option, Some, None, refl, sym, ap, subst, ◌∙◌, arith}
+use Rattle.std.specs.Prelude.{Contains, filter_map, is_some}
 use Rattle.std.specs.Option.{option_map}
 use Rattle.std.specs.List.{AllByRecursion, IsDistinct, cons_option}
 use Rattle.std.specs.Ordering.{nat_cmp, ordering_then}
@@ -17,12 +17,13 @@ use Rattle.carrier_model.specs.Keys.{Name, Key, id, named, key_cmp}
 use Rattle.carrier_model.specs.Values.{Prop, kind_of, prop_cmp, IsProp}
 use Rattle.carrier_model.specs.Sorted.{IsStrictlySorted}
 use Rattle.carrier_model.specs.Trees.{IsPropList}
-use Rattle.carrier_model.specs.Tree.{message, Attachments, no_more, attached, Body, nothing, embedded, listed}
+use Rattle.carrier_model.specs.Tree.{message, Attachments, no_more, attached, Body, nothing, embedded, stored, listed}
 use Rattle.carrier_model.specs.NameMap.{name_for, pairs_from}
 use Rattle.carrier_model.specs.MsgProps.{Part, head_size, is_attachment}
 use Rattle.carrier_model.specs.MsgMessage.{NAME_MAP, RECIPIENT_NAME, ATTACHMENT_NAME, hex_number}
 use Rattle.carrier_model.specs.WrittenNames.{value_name}
-use Rattle.carrier_model.specs.WrittenMsg.{number_of_key, tag_of, OBJECT_TAG, PROPERTIES, props_streams, entries_bytes, list_files, recipient_files, attachment_files, body_files, message_files, is_embedded, numbered_name, head_of}
+use Rattle.carrier_model.specs.WrittenMsg.{number_of_key, tag_of, OBJECT_TAG, props_streams, entries_bytes, list_files, recipient_files, attachment_files, body_files, message_files, object_word, numbered_name, head_of}
+use Rattle.carrier_model.specs.Stores.{PROPERTIES}
 use Rattle.carrier_model.specs.ReadBack.{HasStream, HasList, NamesAmong}
 use Rattle.carrier_model.proofs.Orders.{prop_total}
 use Rattle.carrier_model.proofs.Pairs.{equal_to_itself}
@@ -71,7 +72,7 @@ all_ready names props few good known = every_from (Ready names) props (λ p c. r
 entries_and : (f g : FileTree) → entries (and_files f g) ≡ entries f ++ entries g
 entries_and trees.no_file g = refl
 entries_and (trees.stream name bytes others) g = ap (λ l. file name bytes ∷ l) (entries_and others g)
-entries_and (trees.storage name class inside others) g = ap (λ l. folder name inside ∷ l) (entries_and others g)
+entries_and (trees.storage name class inside others) g = ap (λ l. folder name class inside ∷ l) (entries_and others g)
 
 abbrev pub file_of : List ℕ × List ℕ → Entry
 file_of p = file p.0 p.1
@@ -88,11 +89,11 @@ names_of_files [] = refl
 names_of_files (p ∷ l) = ap (λ z. p.0 ∷ z) (names_of_files l)
 
 -- the entries of a list
-abbrev pub list_entries : List Name → List ℕ → List Prop → Bool → List Entry
-list_entries names head props inner = entries (list_files names head props inner)
+abbrev pub list_entries : List Name → List ℕ → List Prop → Option ℕ → List Entry
+list_entries names head props object = entries (list_files names head props object)
 
-list_names : (names : List Name) (head : List ℕ) (props : List Prop) (inner : Bool) → names_of_entries (list_entries names head props inner) ≡ PROPERTIES ∷ map (λ p. p.0) (props_streams names props)
-list_names names head props inner = ap (λ z. PROPERTIES ∷ z) (ap names_of_entries (entries_streams (props_streams names props)) ∙ names_of_files (props_streams names props))
+list_names : (names : List Name) (head : List ℕ) (props : List Prop) (object : Option ℕ) → names_of_entries (list_entries names head props object) ≡ PROPERTIES ∷ map (λ p. p.0) (props_streams names props)
+list_names names head props object = ap (λ z. PROPERTIES ∷ z) (ap names_of_entries (entries_streams (props_streams names props)) ∙ names_of_files (props_streams names props))
 
 pub in_left : {A : Type 0} (xs ys : List A) (x : A) → Contains xs x → Contains (xs ++ ys) x
 in_left [] ys x (i, lt, e) = absurd (omega (arith, lt))
@@ -109,15 +110,15 @@ in_map f (y ∷ xs) x (zero, lt, e) = (zero, omega arith, ap f e)
 in_map f (y ∷ xs) x (suc i, lt, e) = in_tail (f y) (f x) (map f xs) (in_map f xs x (i, omega (arith, lt), e))
 
 -- The list of a storage is there, among its children.
-pub list_there : (c : Children) (f : FileTree) (part : Part) (names : List Name) (head : List ℕ) (props : List Prop) (inner : Bool) (before after : List Entry) → FoundAs c f → Apart f → length head ≡ head_size part → (inner ≡ true → is_attachment part ≡ true)
-    → entries f ≡ before ++ (list_entries names head props inner ++ after) → HasList part names (stream_named c) props inner
-list_there c f part names head props inner before after h d long inside e =
-    let put : (x : Entry) → Contains (list_entries names head props inner) x → Contains (entries f) x = λ x k. subst (λ (l : List Entry). Contains l x) (sym e) (in_right before (list_entries names head props inner ++ after) x (in_left (list_entries names head props inner) after x k)) in
+pub list_there : (c : Children) (f : FileTree) (part : Part) (names : List Name) (head : List ℕ) (props : List Prop) (object : Option ℕ) (before after : List Entry) → FoundAs c f → Apart f → length head ≡ head_size part → (is_some object ≡ true → is_attachment part ≡ true)
+    → entries f ≡ before ++ (list_entries names head props object ++ after) → HasList part names (stream_named c) props object
+list_there c f part names head props object before after h d long inside e =
+    let put : (x : Entry) → Contains (list_entries names head props object) x → Contains (entries f) x = λ x k. subst (λ (l : List Entry). Contains l x) (sym e) (in_right before (list_entries names head props object ++ after) x (in_left (list_entries names head props object) after x k)) in
     record {
       head = head;
       long = long;
-      list = stream_found c f h d PROPERTIES (head ++ entries_bytes names props inner) (put (file PROPERTIES (head ++ entries_bytes names props inner)) (zero, omega arith, refl));
-      values = every_from (HasStream (stream_named c)) (props_streams names props) (λ p k. stream_found c f h d p.0 p.1 (put (file_of p) (in_tail (file PROPERTIES (head ++ entries_bytes names props inner)) (file_of p) (entries (streams_from (props_streams names props))) (subst (λ (l : List Entry). Contains l (file_of p)) (sym (entries_streams (props_streams names props))) (in_map file_of (props_streams names props) p k)))));
+      list = stream_found c f h d PROPERTIES (head ++ entries_bytes names props object) (put (file PROPERTIES (head ++ entries_bytes names props object)) (zero, omega arith, refl));
+      values = every_from (HasStream (stream_named c)) (props_streams names props) (λ p k. stream_found c f h d p.0 p.1 (put (file_of p) (in_tail (file PROPERTIES (head ++ entries_bytes names props object)) (file_of p) (entries (streams_from (props_streams names props))) (subst (λ (l : List Entry). Contains l (file_of p)) (sym (entries_streams (props_streams names props))) (in_map file_of (props_streams names props) p k)))));
       inside = inside;
     }
 
@@ -143,30 +144,32 @@ no_object_tag names [] h = tt
 no_object_tag names (p ∷ props) h =
     ((λ e. (let k = list_kind p.value h.0.value in let short = k.short in let is : kind_of p.value ≡ 0x000D = omega (arith, short, e) in let wrong : true ≡ false = sym (eq-eqb (kind_of p.value) 0x000D is) ∙ k.no_object in cc)), no_object_tag names props h.1)
 
-pub recipient_apart : (names : List Name) (head : List ℕ) (props : List Prop) (inner : Bool) → AllByRecursion (Ready names) props → IsStrictlySorted prop_cmp props → Apart (list_files names head props inner)
-recipient_apart names head props inner h s = subst (IsDistinct same_name) (sym (list_names names head props inner)) (own_apart names props h s)
+pub recipient_apart : (names : List Name) (head : List ℕ) (props : List Prop) (object : Option ℕ) → AllByRecursion (Ready names) props → IsStrictlySorted prop_cmp props → Apart (list_files names head props object)
+recipient_apart names head props object h s = subst (IsDistinct same_name) (sym (list_names names head props object)) (own_apart names props h s)
 
 -- ---- an attachment
 
 abbrev pub attachment_tree : List Name → List Prop → Body → FileTree
-attachment_tree names props body = and_files (list_files names (replicate 8 0) props (is_embedded body)) (body_files names body)
+attachment_tree names props body = and_files (list_files names (replicate 8 0) props (object_word body)) (body_files names body)
 
 body_names : List Name → Body → List (List ℕ)
 body_names names nothing = []
 body_names names (embedded inner) = value_name OBJECT_TAG ∷ []
+body_names names (stored store) = value_name OBJECT_TAG ∷ []
 
 names_of_body : (names : List Name) (body : Body) → names_of_entries (entries (body_files names body)) ≡ body_names names body
 unfolding body_names
 names_of_body names nothing = refl
 names_of_body names (embedded inner) = refl
+names_of_body names (stored store) = refl
 
 pub attachment_apart : (names : List Name) (props : List Prop) (body : Body) → AllByRecursion (Ready names) props → IsStrictlySorted prop_cmp props → Apart (attachment_tree names props body)
 unfolding body_names IsDistinct
 attachment_apart names props body h s =
     let all : names_of_entries (entries (attachment_tree names props body)) ≡ own_names names props ++ body_names names body =
-    ap names_of_entries (entries_and (list_files names (replicate 8 0) props (is_embedded body)) (body_files names body))
-    ∙ (map-append entry_name (list_entries names (replicate 8 0) props (is_embedded body)) (entries (body_files names body))
-    ∙ (λ i. list_names names (replicate 8 0) props (is_embedded body) i ++ names_of_body names body i)) in
+    ap names_of_entries (entries_and (list_files names (replicate 8 0) props (object_word body)) (body_files names body))
+    ∙ (map-append entry_name (list_entries names (replicate 8 0) props (object_word body)) (entries (body_files names body))
+    ∙ (λ i. list_names names (replicate 8 0) props (object_word body) i ++ names_of_body names body i)) in
     subst (IsDistinct same_name) (sym all) (by body)
   where
     own : IsDistinct same_name (own_names names props)
@@ -176,10 +179,14 @@ attachment_apart names props body h s =
     nothing_apart [] = tt
     nothing_apart (m ∷ l) = (tt, nothing_apart l)
 
+    with_object : IsDistinct same_name (own_names names props ++ value_name OBJECT_TAG ∷ [])
+    with_object = distinct_join (own_names names props) (value_name OBJECT_TAG ∷ []) own (tt, tt)
+        ((said_apart mark 0x70 0x73 (PROPERTIES ∷ []) (value_name OBJECT_TAG ∷ []) (λ e. omega (arith, e)) (refl, tt) (refl, tt)).0, list_apart_from names OBJECT_TAG props (omega arith) (have_tags names props h) (no_object_tag names props h))
+
     by : (b : Body) → IsDistinct same_name (own_names names props ++ body_names names b)
     by nothing = distinct_join (own_names names props) [] own tt (nothing_apart (own_names names props))
-    by (embedded inner) = distinct_join (own_names names props) (value_name OBJECT_TAG ∷ []) own (tt, tt)
-        ((said_apart mark 0x70 0x73 (PROPERTIES ∷ []) (value_name OBJECT_TAG ∷ []) (λ e. omega (arith, e)) (refl, tt) (refl, tt)).0, list_apart_from names OBJECT_TAG props (omega arith) (have_tags names props h) (no_object_tag names props h))
+    by (embedded inner) = with_object
+    by (stored store) = with_object
 
 -- ---- numbered storages
 
@@ -226,7 +233,7 @@ attachment_names names i (attached props body others) = ap (λ z. numbered_name 
 -- the recipients' trees and the attachments', numbered
 abbrev pub recipients_from : List Name → ℕ → List (List Prop) → List (ℕ × FileTree)
 recipients_from names i [] = []
-recipients_from names i (props ∷ others) = (i, list_files names (replicate 8 0) props false) ∷ recipients_from names (i + 1) others
+recipients_from names i (props ∷ others) = (i, list_files names (replicate 8 0) props None) ∷ recipients_from names (i + 1) others
 
 abbrev pub trees_from : List Name → ℕ → Attachments → List (ℕ × FileTree)
 trees_from names i no_more = []
@@ -244,13 +251,13 @@ no_numbers : (prefix : List ℕ) (l : List (List ℕ × List ℕ)) → filter_ma
 no_numbers prefix [] = refl
 no_numbers prefix (p ∷ l) = no_numbers prefix l
 
-list_numbers : (prefix : List ℕ) (names : List Name) (head : List ℕ) (props : List Prop) (inner : Bool) → filter_map (numbered_entry prefix) (list_entries names head props inner) ≡ []
-list_numbers prefix names head props inner = ap (filter_map (numbered_entry prefix)) (entries_streams (props_streams names props)) ∙ no_numbers prefix (props_streams names props)
+list_numbers : (prefix : List ℕ) (names : List Name) (head : List ℕ) (props : List Prop) (object : Option ℕ) → filter_map (numbered_entry prefix) (list_entries names head props object) ≡ []
+list_numbers prefix names head props object = ap (filter_map (numbered_entry prefix)) (entries_streams (props_streams names props)) ∙ no_numbers prefix (props_streams names props)
 
 recipient_numbers : (names : List Name) (i : ℕ) (rs : List (List Prop)) → i + length rs ≤ 2 ^ 32 → filter_map (numbered_entry RECIPIENT_NAME) (entries (recipient_files names i rs)) ≡ recipients_from names i rs
 recipient_numbers names i [] few = refl
 recipient_numbers names i (r ∷ rs) few =
-    let tree : FileTree = list_files names (replicate 8 0) r false in
+    let tree : FileTree = list_files names (replicate 8 0) r None in
     ap (λ o. cons_option (option_map (λ n. (n, tree)) o) (filter_map (numbered_entry RECIPIENT_NAME) (entries (recipient_files names (i + 1) rs)))) (number_again RECIPIENT_NAME i (omega (arith, few)))
     ∙ ap (λ z. (i, tree) ∷ z) (recipient_numbers names (i + 1) rs (omega (arith, few)))
 
@@ -279,9 +286,9 @@ message_names : (names : List Name) (b : Bool) (props : List Prop) (rs : List (L
 unfolding message_parts
 message_names names b props rs all =
     let head : List ℕ = head_of b (length rs) (length (listed all)) in
-    ap names_of_entries (entries_and (list_files names head props false) (and_files (recipient_files names 0 rs) (attachment_files names 0 all)) ∙ ap (λ z. list_entries names head props false ++ z) (entries_and (recipient_files names 0 rs) (attachment_files names 0 all)))
-    ∙ (map-append entry_name (list_entries names head props false) (entries (recipient_files names 0 rs) ++ entries (attachment_files names 0 all))
-    ∙ (λ i. list_names names head props false i ++ (map-append entry_name (entries (recipient_files names 0 rs)) (entries (attachment_files names 0 all)) ∙ (λ j. recipient_names names 0 rs j ++ attachment_names names 0 all j)) i))
+    ap names_of_entries (entries_and (list_files names head props None) (and_files (recipient_files names 0 rs) (attachment_files names 0 all)) ∙ ap (λ z. list_entries names head props None ++ z) (entries_and (recipient_files names 0 rs) (attachment_files names 0 all)))
+    ∙ (map-append entry_name (list_entries names head props None) (entries (recipient_files names 0 rs) ++ entries (attachment_files names 0 all))
+    ∙ (λ i. list_names names head props None i ++ (map-append entry_name (entries (recipient_files names 0 rs)) (entries (attachment_files names 0 all)) ∙ (λ j. recipient_names names 0 rs j ++ attachment_names names 0 all j)) i))
 
 apart_join : (l m n : List (List ℕ)) → AreApart l m → AreApart l n → AreApart l (m ++ n)
 apart_join [] m n a b = tt
@@ -320,26 +327,26 @@ top_apart names class map props rs all h s few some =
 abbrev pub rest_entries : List Name → List (List Prop) → Attachments → List Entry
 rest_entries names rs all = entries (recipient_files names 0 rs) ++ entries (attachment_files names 0 all)
 
-pub message_entries : (names : List Name) (b : Bool) (props : List Prop) (rs : List (List Prop)) (all : Attachments) → entries (message_files names b (message props rs all)) ≡ list_entries names (head_of b (length rs) (length (listed all))) props false ++ rest_entries names rs all
+pub message_entries : (names : List Name) (b : Bool) (props : List Prop) (rs : List (List Prop)) (all : Attachments) → entries (message_files names b (message props rs all)) ≡ list_entries names (head_of b (length rs) (length (listed all))) props None ++ rest_entries names rs all
 message_entries names b props rs all =
     let head : List ℕ = head_of b (length rs) (length (listed all)) in
-    entries_and (list_files names head props false) (and_files (recipient_files names 0 rs) (attachment_files names 0 all)) ∙ ap (λ z. list_entries names head props false ++ z) (entries_and (recipient_files names 0 rs) (attachment_files names 0 all))
+    entries_and (list_files names head props None) (and_files (recipient_files names 0 rs) (attachment_files names 0 all)) ∙ ap (λ z. list_entries names head props None ++ z) (entries_and (recipient_files names 0 rs) (attachment_files names 0 all))
 
-pub attachment_entries : (names : List Name) (props : List Prop) (body : Body) → entries (attachment_tree names props body) ≡ list_entries names (replicate 8 0) props (is_embedded body) ++ entries (body_files names body)
-attachment_entries names props body = entries_and (list_files names (replicate 8 0) props (is_embedded body)) (body_files names body)
+pub attachment_entries : (names : List Name) (props : List Prop) (body : Body) → entries (attachment_tree names props body) ≡ list_entries names (replicate 8 0) props (object_word body) ++ entries (body_files names body)
+attachment_entries names props body = entries_and (list_files names (replicate 8 0) props (object_word body)) (body_files names body)
 
 pub message_recipients : (names : List Name) (before : List Entry) (head : List ℕ) (props : List Prop) (rs : List (List Prop)) (all : Attachments) → filter_map (numbered_entry RECIPIENT_NAME) before ≡ [] → length rs ≤ 2048
-    → filter_map (numbered_entry RECIPIENT_NAME) (before ++ (list_entries names head props false ++ rest_entries names rs all)) ≡ recipients_from names 0 rs
+    → filter_map (numbered_entry RECIPIENT_NAME) (before ++ (list_entries names head props None ++ rest_entries names rs all)) ≡ recipients_from names 0 rs
 message_recipients names before head props rs all none few =
-    filter_map-append (numbered_entry RECIPIENT_NAME) before (list_entries names head props false ++ rest_entries names rs all)
-    ∙ ((λ i. none i ++ (filter_map-append (numbered_entry RECIPIENT_NAME) (list_entries names head props false) (rest_entries names rs all)
-    ∙ (λ j. list_numbers RECIPIENT_NAME names head props false j ++ (filter_map-append (numbered_entry RECIPIENT_NAME) (entries (recipient_files names 0 rs)) (entries (attachment_files names 0 all))
+    filter_map-append (numbered_entry RECIPIENT_NAME) before (list_entries names head props None ++ rest_entries names rs all)
+    ∙ ((λ i. none i ++ (filter_map-append (numbered_entry RECIPIENT_NAME) (list_entries names head props None) (rest_entries names rs all)
+    ∙ (λ j. list_numbers RECIPIENT_NAME names head props None j ++ (filter_map-append (numbered_entry RECIPIENT_NAME) (entries (recipient_files names 0 rs)) (entries (attachment_files names 0 all))
     ∙ (λ k. recipient_numbers names 0 rs (omega (arith, few)) k ++ no_recipients names 0 all k)) j)) i) ∙ append-nil (recipients_from names 0 rs))
 
 pub message_attachments : (names : List Name) (before : List Entry) (head : List ℕ) (props : List Prop) (rs : List (List Prop)) (all : Attachments) → filter_map (numbered_entry ATTACHMENT_NAME) before ≡ [] → length (listed all) ≤ 2048
-    → filter_map (numbered_entry ATTACHMENT_NAME) (before ++ (list_entries names head props false ++ rest_entries names rs all)) ≡ trees_from names 0 all
+    → filter_map (numbered_entry ATTACHMENT_NAME) (before ++ (list_entries names head props None ++ rest_entries names rs all)) ≡ trees_from names 0 all
 message_attachments names before head props rs all none few =
-    filter_map-append (numbered_entry ATTACHMENT_NAME) before (list_entries names head props false ++ rest_entries names rs all)
-    ∙ (λ i. none i ++ (filter_map-append (numbered_entry ATTACHMENT_NAME) (list_entries names head props false) (rest_entries names rs all)
-    ∙ (λ j. list_numbers ATTACHMENT_NAME names head props false j ++ (filter_map-append (numbered_entry ATTACHMENT_NAME) (entries (recipient_files names 0 rs)) (entries (attachment_files names 0 all))
+    filter_map-append (numbered_entry ATTACHMENT_NAME) before (list_entries names head props None ++ rest_entries names rs all)
+    ∙ (λ i. none i ++ (filter_map-append (numbered_entry ATTACHMENT_NAME) (list_entries names head props None) (rest_entries names rs all)
+    ∙ (λ j. list_numbers ATTACHMENT_NAME names head props None j ++ (filter_map-append (numbered_entry ATTACHMENT_NAME) (entries (recipient_files names 0 rs)) (entries (attachment_files names 0 all))
     ∙ (λ k. no_attachments names 0 rs k ++ attachment_numbers names 0 all (omega (arith, few)) k)) j)) i)

@@ -1,25 +1,21 @@
 -- What each job takes, what it refuses, and what its output carries, by the bytes alone.
 -- [MS-CFB 2.2, MS-OXMSG 2.1, MS-OXTNEF 2.1.3, RFC 2046 5.1]
 use Rattle.std.specs.Prelude.{◌≡◌, ◌⊎◌, ℕ, ◌<◌, ◌≤◌, Bool, true, false, List, [], length}
-use Rattle.carrier_model.specs.Commands.{Job, to_msg, to_tnef, wrap, unwrap}
+use Rattle.carrier_model.specs.Commands.{Job, to_msg, to_msg4, to_tnef, wrap, unwrap}
 use Rattle.carrier_model.specs.Envelope.{Envelope, EnvelopeFault}
 use Rattle.carrier_model.specs.Jobs.{is_signed, is_compound}
 use Rattle.carrier_model.specs.MsgMessage.{MsgCarrier, MsgFault}
 use Rattle.carrier_model.specs.Reasons.{NOT_A_CARRIER, INPUT_TOO_LONG}
-use Rattle.carrier_model.specs.Targets.{MOST_BYTES}
+use Rattle.carrier_model.specs.Bytes.{MOST_BYTES}
 use Rattle.carrier_model.specs.TnefMessage.{Passed, TnefCarrier, TnefFault}
 use Rattle.carrier_model.specs.Trail.{Fault}
 use Rattle.carrier_model.specs.Tree.{Message}
-
--- the bytes of a sector, of the version that is read
-abbrev pub SECTOR : ℕ
-SECTOR = 512
 
 -- ---- a message in either form
 
 -- a .msg file where the bytes begin as a compound file, and else a TNEF stream
 abbrev pub MessageBy : Bool → List ℕ → Message → List Passed → Type 0
-MessageBy true b t passed = MsgCarrier SECTOR b t passed
+MessageBy true b t passed = MsgCarrier b t passed
 MessageBy false b t passed = TnefCarrier b t passed
 
 abbrev pub CarriesMessage : List ℕ → Message → List Passed → Type 0
@@ -27,7 +23,7 @@ CarriesMessage b t passed = MessageBy (is_compound b) b t passed
 
 -- bytes that begin as neither are no carrier
 abbrev pub FaultBy : Bool → Bool → List ℕ → Fault → Type 0
-FaultBy true signed b g = MsgFault SECTOR b g
+FaultBy true signed b g = MsgFault b g
 FaultBy false true b g = TnefFault b g
 FaultBy false false b g = g ≡ (NOT_A_CARRIER, 0)
 
@@ -52,12 +48,14 @@ pub record PayloadFault (b : List ℕ) (g : Fault) : Type 0 where
 
 abbrev pub TakesFor : Job → List ℕ → Message → List Passed → Type 0
 TakesFor to_msg b t passed = CarriesMessage b t passed
+TakesFor to_msg4 b t passed = CarriesMessage b t passed
 TakesFor to_tnef b t passed = CarriesMessage b t passed
 TakesFor wrap b t passed = TnefCarrier b t passed
 TakesFor unwrap b t passed = EnvelopeCarrier b t passed
 
 abbrev pub FaultFor : Job → List ℕ → Fault → Type 0
 FaultFor to_msg b g = MessageFault b g
+FaultFor to_msg4 b g = MessageFault b g
 FaultFor to_tnef b g = MessageFault b g
 FaultFor wrap b g = TnefFault b g
 FaultFor unwrap b g = EnvelopeFault b g ⊎ PayloadFault b g
@@ -73,7 +71,8 @@ JobFault job b g = ((MOST_BYTES < length b) × (g ≡ (INPUT_TOO_LONG, MOST_BYTE
 -- The output of a job carries the message. What was passed over stays where bytes are kept as they are, and is left out
 -- where they are made anew.
 abbrev pub Carries : Job → List ℕ → Message → List Passed → Type 0
-Carries to_msg w t passed = MsgCarrier SECTOR w t []
+Carries to_msg w t passed = MsgCarrier w t []
+Carries to_msg4 w t passed = MsgCarrier w t []
 Carries to_tnef w t passed = TnefCarrier w t []
 Carries wrap w t passed = EnvelopeCarrier w t passed
 Carries unwrap w t passed = TnefCarrier w t passed

@@ -20,3 +20,7 @@ le32 n = to_le_bytes w32 n
 
 abbrev pub sum16 : List ℕ → ℕ
 sum16 bytes = sum bytes % 65536
+
+-- the most bytes of an input and of an output
+abbrev pub MOST_BYTES : ℕ
+MOST_BYTES = 268435456

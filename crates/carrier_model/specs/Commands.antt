@@ -5,6 +5,7 @@ use Rattle.std.specs.List.{list_all}
 -- what is made of an input, written to the output
 pub data Job : Type 0 where
   to_msg : Job
+  to_msg4 : Job
   to_tnef : Job
   wrap : Job
   unwrap : Job
@@ -45,6 +46,7 @@ words_of_one =
     (codes "show", show)
     ∷ (codes "check", check)
     ∷ (codes "to-msg", translate to_msg)
+    ∷ (codes "to-msg4", translate to_msg4)
     ∷ (codes "to-tnef", translate to_tnef)
     ∷ (codes "wrap", translate wrap)
     ∷ (codes "unwrap", translate unwrap)

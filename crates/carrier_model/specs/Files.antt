@@ -11,12 +11,14 @@ use Rattle.carrier_model.specs.Entries.{Entry, entry_at, entry_count, entry_plac
 use Rattle.carrier_model.specs.Links.{Directory, Link, Links, leaf, node, ids, siblings, is_storage, links_of}
 use Rattle.carrier_model.specs.Loads.{Loaded, load_of, taken_by, claim_of, long_part, short_part, stream_of}
 use Rattle.carrier_model.specs.Streams.{Stream}
+use Rattle.carrier_model.specs.Tables.{sector_size}
 
--- what a child is called, the number of its entry, and where that lies in the file
+-- what a child is called, the number of its entry, where that lies in the file, and its class
 pub record Tag : Type 0 where
   pub name : List ℕ
   pub id : ℕ
   pub place : ℕ
+  pub class : List ℕ
 
 -- the children of a storage, in sibling order: the first, with what is below it or its bytes, and the rest
 pub data Children : Type 0 where
@@ -24,9 +26,10 @@ pub data Children : Type 0 where
   storage : Tag → (below rest : Children) → Children
   stream : Tag → Stream → (rest : Children) → Children
 
--- the children of the root, and where the root's entry lies
+-- the children of the root, where the root's entry lies, and the root's class
 pub record Files : Type 0 where
   pub place : ℕ
+  pub class : List ℕ
   pub children : Children
 
 -- a name's units, without its null
@@ -43,7 +46,7 @@ is_among name earlier = list_any (pointwise nat_eq name) earlier
 
 -- the directory of a chain
 abbrev pub directory_in : ℕ → List ℕ → List ℕ → Directory
-directory_in z b chain = record { count = entry_count z chain; entry = λ id. entry_at b (entry_place z chain id); place = entry_place z chain }
+directory_in z b chain = record { count = entry_count z chain; entry = λ id. entry_at z b (entry_place z chain id); place = entry_place z chain }
 
 -- the root's child link; the root's children have depth 1
 abbrev pub first_link : Directory → Link
@@ -98,7 +101,7 @@ chain_in (c ∷ cs) id = if nat_eq c.id id then c.chain else chain_in cs id
 abbrev pub tree_of : Directory → (ℕ → Stream) → Links → Children → Children
 tree_of d streams leaf rest = rest
 tree_of d streams (node id l r c) rest =
-    let tag : Tag = record { name = name_of (d.entry id); id = id; place = d.place id } in
+    let tag : Tag = record { name = name_of (d.entry id); id = id; place = d.place id; class = (d.entry id).class } in
     let after = tree_of d streams r rest in
     tree_of d streams l (if is_storage (d.entry id) then storage tag (tree_of d streams c none) after else stream tag (streams id) after)
 
@@ -106,7 +109,7 @@ tree_of d streams (node id l r c) rest =
 abbrev pub files_of : ℕ → List ℕ → Loaded → (ℕ → List ℕ) → Links → Files
 files_of z b s chains t =
     let d = directory_in z b s.directory in
-    record { place = d.place 0; children = tree_of d (λ id. stream_of z b s (d.entry id) (chains id)) t none }
+    record { place = d.place 0; class = (d.entry 0).class; children = tree_of d (λ id. stream_of z b s (d.entry id) (chains id)) t none }
 
 -- a file whose links are walked, and whose streams have their chains
 pub record Opened : Type 0 where
@@ -123,9 +126,13 @@ opened_of z b = do
   claims ← claims_of z b s (directory_in z b s.directory) (stream_ids (directory_in z b s.directory) t) (taken_by s) []
   Ok (record { loaded = s; links = t; claims = claims })
 
--- the files of a file, or its first fault
+-- the files of a file in sectors of z bytes, or its first fault
 abbrev pub open_of : ℕ → List ℕ → Result Files Fault
 open_of z b = mapped (λ o. files_of z b o.loaded (chain_in o.claims) o.links) (opened_of z b)
+
+-- the files of a file of either version, or its first fault
+abbrev pub open_file : List ℕ → Result Files Fault
+open_file b = open_of (sector_size b) b
 
 -- how many words are followed in all: one for each member of each chain
 abbrev pub steps_of : Opened → ℕ

@@ -10,7 +10,7 @@ use Rattle.carrier_model.specs.Links.{Directory, Links, Linked, ids}
 use Rattle.carrier_model.specs.Loads.{Table, Mini, Loaded, no_mini, chain_bound, mini_bound, taken_by, long_part, short_part}
 use Rattle.carrier_model.specs.Sectors.{sector_start, whole_count, u32_of, table_words}
 use Rattle.carrier_model.specs.Streams.{places_of, starts_of, mini_offsets, lie_below}
-use Rattle.carrier_model.specs.Tables.{Head, header_of, difat_count, fat_place}
+use Rattle.carrier_model.specs.Tables.{Head, sector_size, header_of, difat_count, fat_place}
 
 -- these sectors are whole
 abbrev pub AreWhole : ℕ → List ℕ → List ℕ → Type 0
@@ -94,8 +94,8 @@ long_parts d chain streams = flat_map (λ id. long_part (d.entry id) (chain id))
 abbrev pub short_parts : Directory → (ℕ → List ℕ) → List ℕ → List ℕ
 short_parts d chain streams = flat_map (λ id. short_part (d.entry id) (chain id)) streams
 
--- The file holds these files: links are the directory's entries as they are linked, and chain gives each stream's
--- chain. No two chains in the table have a sector in common, nor have two in the mini FAT.
+-- The file holds these files, in sectors of z bytes: links are the directory's entries as they are linked, and chain
+-- gives each stream's chain. No two chains in the table have a sector in common, nor have two in the mini FAT.
 pub record Holds (z : ℕ) (b : List ℕ) (files : Files) : Type 0 where
   pub loaded : Loaded
   pub tables : IsLoaded z b loaded
@@ -109,3 +109,7 @@ pub record Holds (z : ℕ) (b : List ℕ) (files : Files) : Type 0 where
   pub is_tree : files ≡ files_of z b loaded chain links
   pub root_names : AreApart (child_names files.children)
   pub names : HaveNames files.children
+
+-- a file of either version holds these files
+abbrev pub FileHolds : List ℕ → Files → Type 0
+FileHolds b files = Holds (sector_size b) b files

@@ -2,9 +2,8 @@
 -- [MS-OXTNEF 2.1.3, MS-CFB 2.2]
 use Rattle.std.specs.Prelude.{◌≡◌, ◌⊎◌, ℕ, ◌<◌, ◌≤◌, ◌==◌, ◌&&◌, Bool, true, false, List, [], ◌∷◌, length, drop, nat_le, codes}
 use Rattle.carrier_model.specs.Attributes.{SIGNATURE}
-use Rattle.carrier_model.specs.Bytes.{number32}
+use Rattle.carrier_model.specs.Bytes.{number32, MOST_BYTES}
 use Rattle.carrier_model.specs.Reasons.{NOT_BUILT, NOT_A_CARRIER, INPUT_TOO_LONG}
-use Rattle.carrier_model.specs.Targets.{MOST_BYTES}
 use Rattle.carrier_model.specs.TnefMessage.{Meaning, TnefCarrier, TnefFault}
 use Rattle.carrier_model.specs.Trail.{Fault}
 

@@ -7,8 +7,6 @@ use Rattle.carrier_model.specs.Chains.{end_word}
 use Rattle.carrier_model.specs.FileTrees.{FileTree, no_file, stream, storage, NO_CLASS, entries_in, sorted}
 use Rattle.carrier_model.specs.Links.{no_link}
 use Rattle.carrier_model.specs.Tables.{major, sector_shift, difat_count}
-use Rattle.carrier_model.specs.Tree.{Message}
-use Rattle.carrier_model.specs.WrittenMsg.{files_of}
 
 -- ---- the entries of the directory
 
@@ -74,14 +72,10 @@ slots_from n links (storage name class inside others) =
     ∷ (slots_from (n + 1) (links_of_siblings (sibling_numbers (n + 1) inside)) inside
     ++ slots_from (n + 1 + entries_in inside) (drop 1 links) others)
 
--- {00020D0B-0000-0000-C000-000000000046}
-abbrev pub ROOT_CLASS : List ℕ
-ROOT_CLASS = 0x0B ∷ 0x0D ∷ 0x02 ∷ 0x00 ∷ 0x00 ∷ 0x00 ∷ 0x00 ∷ 0x00 ∷ 0xC0 ∷ 0x00 ∷ 0x00 ∷ 0x00 ∷ 0x00 ∷ 0x00 ∷ 0x00 ∷ 0x46 ∷ []
-
--- the root, number 0, and all others
-abbrev pub slots_of : FileTree → List Slot
-slots_of files =
-    record { name = codes "Root Entry"; class = ROOT_CLASS; kind = ROOT; left = no_link; right = no_link; child = top_of (sibling_numbers 1 files); bytes = [] }
+-- the root, number 0, of this class, and all others
+abbrev pub slots_of : List ℕ → FileTree → List Slot
+slots_of class files =
+    record { name = codes "Root Entry"; class = class; kind = ROOT; left = no_link; right = no_link; child = top_of (sibling_numbers 1 files); bytes = [] }
     ∷ slots_from 1 (links_of_siblings (sibling_numbers 1 files)) files
 
 -- ---- streams
@@ -324,11 +318,12 @@ file_bytes z p slots =
     ++ (words_bytes (mini_table_of z p slots)
     ++ (mini_stream_bytes z slots ++ long_bytes z slots)))))
 
-abbrev pub layout : ℕ → FileTree → List ℕ
-layout z files =
-    let slots = slots_of (sorted files) in
+-- the file of a root that has this class and these children
+abbrev pub layout : ℕ → List ℕ → FileTree → List ℕ
+layout z class files =
+    let slots = slots_of class (sorted files) in
     file_bytes z (plan_of z slots) slots
 
--- the canonical .msg file of a message
-abbrev pub msg_of : Message → List ℕ
-msg_of t = layout 512 (files_of t)
+-- {00020D0B-0000-0000-C000-000000000046}, the class of a message
+abbrev pub MESSAGE_CLASS : List ℕ
+MESSAGE_CLASS = 0x0B ∷ 0x0D ∷ 0x02 ∷ 0x00 ∷ 0x00 ∷ 0x00 ∷ 0x00 ∷ 0x00 ∷ 0xC0 ∷ 0x00 ∷ 0x00 ∷ 0x00 ∷ 0x00 ∷ 0x00 ∷ 0x00 ∷ 0x46 ∷ []

@@ -1,26 +1,16 @@
--- What is laid out is found again: the statement that the file of a tree of storages and streams holds that tree, its
--- siblings in the order in which they are written. [MS-CFB 2.6]
-use Rattle.std.specs.Prelude.{◌≡◌, ℕ, ◌+◌, ◌<◌, ◌≤◌, ◌^◌, List, [], ◌∷◌, length}
-use Rattle.std.specs.List.{AllByRecursion}
+-- What is laid out is found again: the statement that the file of a tree of storages and streams holds that tree with its
+-- classes, its siblings in the order in which they are written. [MS-CFB 2.6]
+use Rattle.std.specs.Prelude.{◌≡◌, ℕ, ◌+◌, ◌<◌, ◌≤◌, ◌^◌, List, length, IsTrue}
 use Rattle.carrier_model.specs.FileTrees as trees
-use Rattle.carrier_model.specs.FileTrees.{FileTree, NO_CLASS, sorted}
-use Rattle.carrier_model.specs.Files.{Children, none, storage, stream, Files}
-use Rattle.carrier_model.specs.Holds.{AreApart, Holds}
+use Rattle.carrier_model.specs.FileTrees.{FileTree, sorted, file_names, IsFileName}
+use Rattle.carrier_model.specs.Files.{Files}
+use Rattle.carrier_model.specs.Holds.{AreApart, FileHolds}
 use Rattle.carrier_model.specs.Layout.{layout}
-use Rattle.carrier_model.specs.Targets.{MOST_BYTES}
+use Rattle.carrier_model.specs.Sectors.{is_size}
+use Rattle.carrier_model.specs.Stores.{bare}
+use Rattle.carrier_model.specs.Bytes.{MOST_BYTES}
 
 -- ---- what may be written
-
-abbrev pub file_names : FileTree → List (List ℕ)
-file_names trees.no_file = []
-file_names (trees.stream name bytes others) = name ∷ file_names others
-file_names (trees.storage name class inside others) = name ∷ file_names others
-
--- one to 31 units
-pub record IsFileName (name : List ℕ) : Type 0 where
-  pub some : 1 ≤ length name
-  pub few : length name ≤ 31
-  pub units : AllByRecursion (λ unit. unit < 2 ^ 16) name
 
 -- Children at a depth: their names fit, no storage has a name twice, and none is too deep.
 abbrev pub MayBeWrittenAt : ℕ → FileTree → Type 0
@@ -35,24 +25,13 @@ MayBeWritten files = AreApart (file_names files) × MayBeWrittenAt 1 files
 
 -- ---- what is found
 
--- children by their names and bytes alone
-abbrev pub bare : Children → FileTree
-bare none = trees.no_file
-bare (storage tag below rest) = trees.storage tag.name NO_CLASS (bare below) (bare rest)
-bare (stream tag x rest) = trees.stream tag.name x.bytes (bare rest)
-
--- a tree without its classes
-abbrev pub classless : FileTree → FileTree
-classless trees.no_file = trees.no_file
-classless (trees.stream name bytes others) = trees.stream name bytes (classless others)
-classless (trees.storage name class inside others) = trees.storage name NO_CLASS (classless inside) (classless others)
-
 -- the file holds files, and they are those that were laid out
-pub record HoldsLaidOut (z : ℕ) (files : FileTree) : Type 0 where
+pub record HoldsLaidOut (z : ℕ) (class : List ℕ) (files : FileTree) : Type 0 where
   pub found : Files
-  pub holds : Holds z (layout z files) found
-  pub same : bare found.children ≡ classless (sorted files)
+  pub holds : FileHolds (layout z class files) found
+  pub root : found.class ≡ class
+  pub same : bare found.children ≡ sorted files
 
 -- The statement.
-abbrev pub LayoutsAreFound : ℕ → Type 0
-LayoutsAreFound z = (files : FileTree) → MayBeWritten files → length (layout z files) ≤ MOST_BYTES → HoldsLaidOut z files
+abbrev pub LayoutsAreFound : Type 0
+LayoutsAreFound = (z : ℕ) (class : List ℕ) (files : FileTree) → IsTrue (is_size z) → length class ≡ 16 → MayBeWritten files → length (layout z class files) ≤ MOST_BYTES → HoldsLaidOut z class files

@@ -42,6 +42,7 @@ pub mod SampleTrees
 pub mod Sectors
 pub mod SmallestFile
 pub mod Sorted
+pub mod Stores
 pub mod Streams
 pub mod Tables
 pub mod Targets

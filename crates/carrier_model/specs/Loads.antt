@@ -84,8 +84,8 @@ taken_first t = t.difat ++ t.table.sectors ++ t.directory
 unfoldable pub load_of : ℕ → List ℕ → Result Loaded Fault
 load_of z b = do
   t ← tables_of z b
-  kind ← check (nat_eq (entry_at b (entry_place z t.directory 0)).kind 5) BAD_ENTRY_TYPE (entry_place z t.directory 0 + 66)
-  m ← mini_of z b t.table t.head.mini_fat (entry_at b (entry_place z t.directory 0)).start (entry_at b (entry_place z t.directory 0)).size (entry_place z t.directory 0) (taken_first t)
+  kind ← check (nat_eq (entry_at z b (entry_place z t.directory 0)).kind 5) BAD_ENTRY_TYPE (entry_place z t.directory 0 + 66)
+  m ← mini_of z b t.table t.head.mini_fat (entry_at z b (entry_place z t.directory 0)).start (entry_at z b (entry_place z t.directory 0)).size (entry_place z t.directory 0) (taken_first t)
   Ok (record { difat = t.difat; table = t.table; directory = t.directory; mini = m })
 
 -- all the sectors that a loaded file has taken

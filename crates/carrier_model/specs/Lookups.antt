@@ -27,7 +27,7 @@ same_name one other = pointwise nat_eq (folded one) (folded other)
 
 -- a storage, by its tag and what is below it
 abbrev pub storage_at : Tag → Children → Files
-storage_at tag below = record { place = tag.place; children = below }
+storage_at tag below = record { place = tag.place; class = tag.class; children = below }
 
 -- the stream of a name; a storage of that name is none
 abbrev pub stream_named : Children → List ℕ → Option Found

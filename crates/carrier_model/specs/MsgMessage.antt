@@ -1,24 +1,25 @@
 -- The message that a .msg file means. [MS-OXMSG 2.1 to 2.4]
-use Rattle.std.specs.Prelude.{◌≡◌, ℕ, zero, suc, ◌+◌, ◌*◌, ◌-◌, ◌==◌, ◌&&◌, ◌||◌, Bool, true, nat_le, if◌then◌else◌, List, [], ◌++◌, length, map, take, drop, fold, Option, Some, None, is_some, option_to_list, Result, Ok, Err, codes}
+use Rattle.std.specs.Prelude.{◌≡◌, ℕ, zero, suc, ◌+◌, ◌*◌, ◌-◌, ◌==◌, ◌&&◌, ◌||◌, Bool, true, false, nat_le, if◌then◌else◌, List, [], ◌++◌, length, map, take, drop, fold, Option, Some, None, is_some, option_to_list, Result, Ok, Err, codes}
 use Rattle.std.specs.Option.{option_map}
 use Rattle.std.specs.List.{flat_map, list_all, AllZip}
 use Rattle.std.specs.Ordering.{nat_cmp, on}
 use Rattle.std.specs.declared.cmp.Ordering.{Ordering}
 use Rattle.carrier_model.specs.Trail.{Fault}
-use Rattle.carrier_model.specs.Reasons.{TOO_DEEP, OLE_STORAGE, MISSING_STORAGE}
-use Rattle.carrier_model.specs.Outcomes.{◌>>=◌, check, mapped}
+use Rattle.carrier_model.specs.Reasons.{TOO_DEEP, MISSING_STORAGE}
+use Rattle.carrier_model.specs.Outcomes.{◌>>=◌, mapped}
 use Rattle.carrier_model.specs.Turns.{each, found}
 use Rattle.carrier_model.specs.Sorted.{with_elements}
 use Rattle.carrier_model.specs.Streams.{Stream}
-use Rattle.carrier_model.specs.Files.{Children, none, storage, stream, Files, folded, open_of}
-use Rattle.carrier_model.specs.Holds.{Holds}
+use Rattle.carrier_model.specs.Files.{Children, none, storage, stream, Files, folded, open_file}
+use Rattle.carrier_model.specs.Holds.{FileHolds}
 use Rattle.carrier_model.specs.Lookups.{Found, same_name, storage_at, stream_named, storage_named}
-use Rattle.carrier_model.specs.Tree.{Message, message, nothing, embedded, Attached, attachments_from}
+use Rattle.carrier_model.specs.Tree.{Message, message, nothing, Attached, attachments_from}
+use Rattle.carrier_model.specs.FileTrees.{Store}
 use Rattle.carrier_model.specs.TnefLists.{ATTACHED_OBJECT}
-use Rattle.carrier_model.specs.TnefMessage.{Passed, Meaning, GREATEST_LEVEL}
+use Rattle.carrier_model.specs.TnefMessage.{Passed, Meaning, Held, held_message, held_store, GREATEST_LEVEL}
 use Rattle.carrier_model.specs.NameMap.{NameStreams, Pair, pairs_of, NamePairs}
 use Rattle.carrier_model.specs.WrittenNames.{value_name}
-use Rattle.carrier_model.specs.WrittenMsg.{PROPERTIES}
+use Rattle.carrier_model.specs.Stores.{PROPERTIES, store_in, StoreMeans}
 use Rattle.carrier_model.specs.MsgValues.{Streams}
 use Rattle.carrier_model.specs.MsgProps.{Part, top, embedded_message, recipient, attachment, Section, props_of, MsgProps}
 
@@ -95,11 +96,11 @@ pub record Carried : Type 0 where
   pub attached : Attached
   pub passed : List Passed
 
-abbrev pub carried : Section → Option Meaning → Carried
+abbrev pub carried : Section → Option Held → Carried
 carried l None = record { attached = (l.props, nothing); passed = l.passed }
-carried l (Some m) = record { attached = (l.props, embedded m.message); passed = l.passed ++ m.passed }
+carried l (Some h) = record { attached = (l.props, h.body); passed = l.passed ++ h.passed }
 
--- What was passed over stands in the order of the lists, an embedded message behind the list of its attachment.
+-- What was passed over stands in the order of the lists, that of an embedded message behind the list of its attachment.
 abbrev pub meaning_of : Section → List Section → List Carried → Meaning
 meaning_of own recipients attachments = record {
   message = message own.props (map (λ l. l.props) recipients) (attachments_from (map (λ a. a.attached) attachments));
@@ -110,17 +111,23 @@ meaning_of own recipients attachments = record {
 abbrev pub Inner : Type 0
 Inner = ℕ → Files → Result Meaning Fault
 
--- The message that is embedded in an attachment, which has an entry for it at `place`: a storage beside the list, with a
--- list of its own. A storage without one is an OLE storage.
-unfoldable pub embedded_in : Inner → Files → ℕ → Result Meaning Fault
-embedded_in inner s place = do
-  below ← found (storage_named s.children (value_name ATTACHED_OBJECT)) (MISSING_STORAGE, place)
-  listed ← check (is_some (stream_named below.children PROPERTIES)) OLE_STORAGE place
-  inner place below
+-- a storage with a list of its own is a message, and one without is a store
+abbrev pub is_message : Files → Bool
+is_message s = is_some (stream_named s.children PROPERTIES)
 
-unfoldable pub body_in : Inner → Files → Option ℕ → Result (Option Meaning) Fault
+abbrev pub held_by : Inner → Bool → ℕ → Files → Result Held Fault
+held_by inner true place below = mapped held_message (inner place below)
+held_by inner false place below = mapped held_store (store_in below)
+
+-- What an attachment holds that has an entry for it at `place`: the storage beside the list.
+unfoldable pub held_in : Inner → Files → ℕ → Result Held Fault
+held_in inner s place = do
+  below ← found (storage_named s.children (value_name ATTACHED_OBJECT)) (MISSING_STORAGE, place)
+  held_by inner (is_message below) place below
+
+unfoldable pub body_in : Inner → Files → Option ℕ → Result (Option Held) Fault
 body_in inner s None = Ok None
-body_in inner s (Some place) = mapped Some (embedded_in inner s place)
+body_in inner s (Some place) = mapped Some (held_in inner s place)
 
 unfoldable pub attachment_in : List Pair → Inner → Files → Result Carried Fault
 attachment_in pairs inner s = do
@@ -146,15 +153,15 @@ files_meaning root = do
   pairs ← pairs_of (name_streams root)
   message_in GREATEST_LEVEL pairs top root
 
--- what a file means, or its first fault; z is the sector size
-unfoldable pub file_meaning : ℕ → List ℕ → Result Meaning Fault
-file_meaning z b = do
-  root ← open_of z b
+-- what a file means, or its first fault
+unfoldable pub file_meaning : List ℕ → Result Meaning Fault
+file_meaning b = do
+  root ← open_file b
   files_meaning root
 
 -- the first fault of a file
-abbrev pub MsgFault : ℕ → List ℕ → Fault → Type 0
-MsgFault z b g = file_meaning z b ≡ Err g
+abbrev pub MsgFault : List ℕ → Fault → Type 0
+MsgFault b g = file_meaning b ≡ Err g
 
 -- ---- the same as a relation
 
@@ -162,24 +169,27 @@ MsgFault z b g = file_meaning z b ≡ Err g
 abbrev pub Within : Type 1
 Within = Files → Meaning → Type 0
 
--- an attachment's storage has a message, in a storage beside the attachment's list
-pub record HasMessage (within : Within) (s : Files) (m : Meaning) : Type 0 where
+abbrev pub HoldsBy : Within → Bool → Files → Held → Type 0
+HoldsBy within true below h = (m : Meaning) × within below m × (h ≡ held_message m)
+HoldsBy within false below h = (x : Store) × StoreMeans below x × (h ≡ held_store x)
+
+-- an attachment's storage has a message or a store, in a storage beside the attachment's list
+pub record HasObject (within : Within) (s : Files) (h : Held) : Type 0 where
   pub below : Files
   pub there : storage_named s.children (value_name ATTACHED_OBJECT) ≡ Some below
-  pub listed : is_some (stream_named below.children PROPERTIES) ≡ true
-  pub means : within below m
+  pub means : HoldsBy within (is_message below) below h
 
--- there is a message exactly where the list has an entry for one
-abbrev pub HasBody : Within → Files → Option ℕ → Option Meaning → Type 0
+-- there is one exactly where the list has an entry for it
+abbrev pub HasBody : Within → Files → Option ℕ → Option Held → Type 0
 HasBody within s None None = Unit {0}
-HasBody within s None (Some m) = ⊥
+HasBody within s None (Some h) = ⊥
 HasBody within s (Some place) None = ⊥
-HasBody within s (Some place) (Some m) = HasMessage within s m
+HasBody within s (Some place) (Some h) = HasObject within s h
 
 pub record AttachmentMeans (pairs : List Pair) (within : Within) (s : Files) (a : Carried) : Type 0 where
   pub list : Section
   pub there : MsgProps attachment pairs (stream_named s.children) list
-  pub body : Option Meaning
+  pub body : Option Held
   pub inner : HasBody within s list.embedded body
   pub is : a ≡ carried list body
 
@@ -205,7 +215,7 @@ pub record FilesMean (root : Files) (m : Meaning) : Type 0 where
   pub means : MsgMeans GREATEST_LEVEL pairs top root m
 
 -- the bytes are a carrier of the message, with things passed over
-pub record MsgCarrier (z : ℕ) (b : List ℕ) (t : Message) (passed : List Passed) : Type 0 where
+pub record MsgCarrier (b : List ℕ) (t : Message) (passed : List Passed) : Type 0 where
   pub root : Files
-  pub holds : Holds z b root
+  pub holds : FileHolds b root
   pub means : FilesMean root (record { message = t; passed = passed })

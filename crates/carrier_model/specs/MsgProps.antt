@@ -14,7 +14,7 @@ use Rattle.carrier_model.specs.TnefLists.{OBJECT, ATTACHED_OBJECT, is_kind, firs
 use Rattle.carrier_model.specs.TnefMessage.{Passed}
 use Rattle.carrier_model.specs.NameMap.{Pair, name_for}
 use Rattle.carrier_model.specs.Lookups.{Found, size_place}
-use Rattle.carrier_model.specs.WrittenMsg.{PROPERTIES}
+use Rattle.carrier_model.specs.Stores.{PROPERTIES}
 use Rattle.carrier_model.specs.MsgValues.{Streams, PropEntry, kind_in, id_in, value_of}
 
 -- what a list belongs to

@@ -1,8 +1,8 @@
 -- What is written for names and property lists in a .msg file, wherever its streams lie. [MS-OXMSG 2.2.3, 2.4]
-use Rattle.std.specs.Prelude.{◌≡◌, ℕ, ◌<◌, ◌≤◌, ◌^◌, Bool, true, List, [], ◌++◌, length, Contains, Some, is_some, Result, Ok}
+use Rattle.std.specs.Prelude.{◌≡◌, ℕ, ◌<◌, ◌≤◌, ◌^◌, true, List, [], ◌++◌, length, Contains, Option, Some, is_some, Result, Ok}
 use Rattle.std.specs.List.{flat_map, AllByRecursion}
 use Rattle.carrier_model.specs.Keys.{Name, named, IsName}
-use Rattle.carrier_model.specs.Tree.{Message, message, Attachments, no_more, attached, Body, nothing, embedded, listed}
+use Rattle.carrier_model.specs.Tree.{Message, message, Attachments, no_more, attached, Body, nothing, embedded, stored, listed}
 use Rattle.carrier_model.specs.Trees.{HasUnits}
 use Rattle.carrier_model.specs.FileTrees as trees
 use Rattle.carrier_model.specs.FileTrees.{FileTree}
@@ -10,7 +10,8 @@ use Rattle.carrier_model.specs.Lookups.{Found}
 use Rattle.carrier_model.specs.Trail.{Fault}
 use Rattle.carrier_model.specs.Values.{Prop}
 use Rattle.carrier_model.specs.MsgProps.{Part, head_size, is_attachment, Section}
-use Rattle.carrier_model.specs.WrittenMsg.{PROPERTIES, entries_bytes, props_streams}
+use Rattle.carrier_model.specs.WrittenMsg.{entries_bytes, props_streams}
+use Rattle.carrier_model.specs.Stores.{PROPERTIES}
 use Rattle.carrier_model.specs.MsgValues.{Streams}
 use Rattle.carrier_model.specs.NameMap.{NameStreams}
 use Rattle.carrier_model.specs.WrittenNames.{sets_of, entries_from, text_stream}
@@ -33,24 +34,24 @@ pub record HasNameMap (s : NameStreams) (names : List Name) : Type 0 where
   pub entries : s.entries.bytes ≡ entries_from (sets_of names) 0 0 names
   pub texts : s.texts.bytes ≡ text_stream names
 
--- a storage has the list that is written for properties, with the entry of an embedded message or without
-pub record HasList (part : Part) (names : List Name) (streams : Streams) (props : List Prop) (inner : Bool) : Type 0 where
+-- a storage has the list that is written for properties, with the entry of an object of this word or without
+pub record HasList (part : Part) (names : List Name) (streams : Streams) (props : List Prop) (object : Option ℕ) : Type 0 where
   pub head : List ℕ
   pub long : length head ≡ head_size part
-  pub list : HasStream streams (PROPERTIES, head ++ entries_bytes names props inner)
+  pub list : HasStream streams (PROPERTIES, head ++ entries_bytes names props object)
   pub values : AllByRecursion (HasStream streams) (props_streams names props)
-  pub inside : inner ≡ true → is_attachment part ≡ true
+  pub inside : is_some object ≡ true → is_attachment part ≡ true
 
 -- the names of these properties are among others
 abbrev pub NamesAmong : List Name → List Prop → Type 0
 NamesAmong names props = (p : Prop) (name : Name) → Contains props p → p.key ≡ named name → Contains names name
 
--- the list is read: these properties, an embedded message or none, and nothing passed over
-pub record IsReadAs (r : Result Section Fault) (props : List Prop) (inner : Bool) : Type 0 where
+-- the list is read: these properties, the entry of an object or none, and nothing passed over
+pub record IsReadAs (r : Result Section Fault) (props : List Prop) (object : Option ℕ) : Type 0 where
   pub section : Section
   pub read : r ≡ Ok section
   pub props_are : section.props ≡ props
-  pub embedded : is_some section.embedded ≡ inner
+  pub embedded : is_some section.embedded ≡ is_some object
   pub passed : section.passed ≡ []
 
 -- each message has at most as many recipients and attachments as a .msg file has room for
@@ -65,6 +66,7 @@ abbrev mutual
   pub BodyHasFewParts : Body → Type 0
   BodyHasFewParts nothing = Unit {0}
   BodyHasFewParts (embedded inner) = HasFewParts inner
+  BodyHasFewParts (stored store) = Unit {0}
 
 -- no stream has more bytes than a .msg file may have
 abbrev pub StreamsFit : FileTree → Type 0

@@ -5,7 +5,7 @@ use Rattle.carrier_model.specs.KindNames.{name_among}
 abbrev pub reason_names : List (ℕ × List ℕ)
 reason_names =
     (1, codes "NotACarrier") ∷ (2, codes "NotBuilt") ∷ (3, codes "InputTooLong") ∷ (4, codes "TooDeep") ∷
-    (5, codes "OleStorage") ∷ (10, codes "BadFileSignature") ∷ (11, codes "BadVersion") ∷ (12, codes "BadHeader") ∷
+    (10, codes "BadFileSignature") ∷ (11, codes "BadVersion") ∷ (12, codes "BadHeader") ∷
     (13, codes "BadFatCount") ∷ (14, codes "SectorOutOfRange") ∷ (15, codes "Cycle") ∷ (16, codes "Shared") ∷
     (17, codes "ShortChain") ∷ (18, codes "FileTruncated") ∷ (25, codes "BadEntryType") ∷ (26, codes "BadName") ∷
     (27, codes "EntryShared") ∷ (28, codes "EntryOutOfRange") ∷ (29, codes "DoubleName") ∷
@@ -13,7 +13,7 @@ reason_names =
     (37, codes "BadNameLength") ∷ (38, codes "DoubleId") ∷ (39, codes "BadPropertyIndex") ∷
     (43, codes "BadPropStream") ∷ (44, codes "UnknownType") ∷ (45, codes "UnmappedId") ∷ (46, codes "MissingStream") ∷
     (47, codes "BadElement") ∷ (48, codes "DuplicateProperty") ∷ (53, codes "MissingProperties") ∷
-    (54, codes "MissingStorage") ∷ (60, codes "BadSignature") ∷ (61, codes "BadLevel") ∷ (62, codes "Truncated") ∷
+    (54, codes "MissingStorage") ∷ (55, codes "StoreTooDeep") ∷ (56, codes "StoreIsMessage") ∷ (60, codes "BadSignature") ∷ (61, codes "BadLevel") ∷ (62, codes "Truncated") ∷
     (63, codes "BadSum") ∷ (70, codes "ListTruncated") ∷ (71, codes "UnknownListType") ∷ (72, codes "BadNameKind") ∷
     (73, codes "BadNameSize") ∷ (74, codes "BadCount") ∷ (75, codes "BadSize") ∷ (76, codes "DuplicateListProperty") ∷
     (79, codes "NoAttachment") ∷ (80, codes "DoubleAttribute") ∷ (82, codes "BadInterface") ∷

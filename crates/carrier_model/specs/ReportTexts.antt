@@ -28,7 +28,7 @@ limit_text (too_large n) = counted (codes "unfit Size") n
 abbrev pub report_text : Ending → List ℕ
 report_text done = []
 report_text (refused g) = line 0 (fault_text g)
-report_text wrong_words = line 0 (codes "usage: show, check, to-msg, to-tnef, wrap, unwrap, or sample N")
+report_text wrong_words = line 0 (codes "usage: show, check, to-msg, to-msg4, to-tnef, wrap, unwrap, or sample N")
 report_text (unfit limit) = line 0 (limit_text limit)
 report_text read_fault = line 0 (codes "read fault")
 report_text write_fault = line 0 (codes "write fault")

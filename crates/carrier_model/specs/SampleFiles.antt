@@ -1,14 +1,15 @@
 -- Small files, of which computed rows speak.
-use Rattle.std.specs.Prelude.{ℕ, ◌+◌, List, [], ◌∷◌, ◌++◌, length, take, drop, codes}
+use Rattle.std.specs.Prelude.{ℕ, zero, suc, ◌+◌, List, [], ◌∷◌, ◌++◌, length, take, drop, codes}
 use Rattle.std.specs.List.{range_with_len}
 use Rattle.carrier_model.specs.Bytes.{le32}
 use Rattle.carrier_model.specs.KeyTexts.{label_family}
 use Rattle.carrier_model.specs.Streams.{Stream}
 use Rattle.carrier_model.specs.NameMap.{NameStreams}
 use Rattle.carrier_model.specs.Keys.{id, named, numbered, texted}
-use Rattle.carrier_model.specs.Layout.{msg_of}
+use Rattle.carrier_model.specs.WrittenMsg.{msg_of, msg4_of}
 use Rattle.carrier_model.specs.SampleTrees.{wide}
-use Rattle.carrier_model.specs.Tree.{Message, message, attached, no_more, nothing, embedded}
+use Rattle.carrier_model.specs.FileTrees.{FileTree, no_file, stream, storage, NO_CLASS, Store}
+use Rattle.carrier_model.specs.Tree.{Message, message, attached, no_more, nothing, embedded, stored}
 use Rattle.carrier_model.specs.Values.{Value, number, guid, bytes, numbers, guids, parts, Prop}
 use Rattle.carrier_model.specs.WrittenNames.{PS_MAPI}
 
@@ -31,6 +32,10 @@ changed b at new = take at b ++ (new ++ drop (at + length new) b)
 -- the file of a message without properties
 abbrev pub empty_file : List ℕ
 empty_file = msg_of (message [] [] no_more)
+
+-- that of version 4
+abbrev pub empty_file4 : List ℕ
+empty_file4 = msg4_of (message [] [] no_more)
 
 -- the same with a list of so many bytes, in which these stand behind the head
 abbrev pub one_entry : ℕ → List ℕ → List ℕ
@@ -82,3 +87,28 @@ names_message = message (
 abbrev pub nested_message : Message
 nested_message = message [] ((prop 0x3001 (number 0x0003 1) ∷ []) ∷ [])
     (attached (prop 0x3705 (number 0x0003 5) ∷ []) (embedded (message (prop 0x0017 (number 0x0003 2) ∷ []) [] (attached [] nothing no_more))) no_more)
+
+-- ---- stores
+
+-- one without members and without a class
+abbrev pub empty_store : Store
+empty_store = record { class = NO_CLASS; members = no_file }
+
+-- one with two streams, and with a storage that has a class and a stream
+abbrev pub small_store : Store
+small_store = record {
+  class = APPOINTMENT;
+  members = stream (codes "b") (1 ∷ 2 ∷ 3 ∷ []) (storage (codes "C") APPOINTMENT (stream [] (4 ∷ 5 ∷ []) no_file) (stream (codes "aa") [] no_file));
+}
+
+-- so many storages, one below another
+abbrev pub nested_storages : ℕ → FileTree
+nested_storages zero = no_file
+nested_storages (suc n) = storage (codes "a") NO_CLASS (nested_storages n) no_file
+
+abbrev pub nested_store : ℕ → Store
+nested_store n = record { class = NO_CLASS; members = nested_storages n }
+
+-- a message with an attachment that holds a store
+abbrev pub holding : Store → Message
+holding store = message [] [] (attached [] (stored store) no_more)

@@ -6,7 +6,7 @@ use Rattle.carrier_model.specs.Bytes.{le32, sum16}
 use Rattle.carrier_model.specs.EnvelopeText.{envelope_of}
 use Rattle.carrier_model.specs.KeyTexts.{label_family}
 use Rattle.carrier_model.specs.Keys.{id, named, numbered}
-use Rattle.carrier_model.specs.Layout.{msg_of}
+use Rattle.carrier_model.specs.WrittenMsg.{msg_of}
 use Rattle.carrier_model.specs.TnefCanonical.{tnef_of}
 use Rattle.carrier_model.specs.Tree.{Message, message, no_more, attached, nothing, embedded, Attached, attachments_from}
 use Rattle.carrier_model.specs.TreeTexts.{line, counted, count_lines}

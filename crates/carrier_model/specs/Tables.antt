@@ -23,6 +23,11 @@ major z = if nat_eq z 512 then 3 else 4
 abbrev pub sector_shift : ℕ → ℕ
 sector_shift z = if nat_eq z 512 then 9 else 12
 
+-- the sector size that a file's major version says: that of version 4, and else that of version 3
+abbrev pub sector_size : List ℕ → ℕ
+sector_size b = if nat_eq (u16_of b 26) 4 then 4096 else 512
+
+-- what the header says, for a version that has sectors of z bytes
 unfoldable pub header_of : ℕ → List ℕ → Result Head Fault
 header_of z b = do
   long ← check (nat_le 512 (length b)) FILE_TRUNCATED (length b)

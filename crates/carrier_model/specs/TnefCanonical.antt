@@ -9,10 +9,11 @@ use Rattle.carrier_model.specs.Sorted.{choose}
 use Rattle.carrier_model.specs.Attributes.{SIGNATURE, attr, spelling}
 use Rattle.carrier_model.specs.Keys.{Name, numbered, texted, Key, id, named, key_cmp, name_cmp, is_id}
 use Rattle.carrier_model.specs.Values.{Value, number, guid, bytes, numbers, guids, parts, Prop, kind_of, number_widths, numbers_widths, width_in}
-use Rattle.carrier_model.specs.Tree.{Message, message, Attachments, no_more, attached, Body, nothing, embedded, names_of}
+use Rattle.carrier_model.specs.Tree.{Message, message, Attachments, no_more, attached, Body, nothing, embedded, stored, names_of}
 use Rattle.carrier_model.specs.TnefLists.{pad4, null_of, OBJECT}
 use Rattle.carrier_model.specs.LegacyAttributes.{VERSION, CODE_PAGE, MESSAGE_PROPS, RECIPIENTS, RENDERING, ATTACHMENT}
-use Rattle.carrier_model.specs.TnefMessage.{IID_MESSAGE}
+use Rattle.carrier_model.specs.Stores.{store_bytes}
+use Rattle.carrier_model.specs.TnefMessage.{IID_MESSAGE, IID_STORAGE}
 
 -- ---- values
 
@@ -126,6 +127,7 @@ abbrev mutual
   pub content_of : List Name → Body → Option (List ℕ)
   content_of names nothing = None
   content_of names (embedded inner) = Some (IID_MESSAGE ++ stream_of names inner)
+  content_of names (stored store) = Some (IID_STORAGE ++ store_bytes store)
 
 -- the canonical stream; embedded messages use the ids of the whole tree
 abbrev pub tnef_of : Message → List ℕ

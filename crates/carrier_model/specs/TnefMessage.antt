@@ -1,14 +1,17 @@
 -- The message that a TNEF stream means. [MS-OXTNEF 2.1.3, 2.2]
-use Rattle.std.specs.Prelude.{◌≡◌, ◌⊎◌, ℕ, zero, suc, ◌+◌, ◌==◌, ◌&&◌, ◌||◌, not, Bool, true, false, if◌then◌else◌, List, [], ◌∷◌, ◌++◌, map, reverse, take, drop, Option, Some, None, filter, filter_map, take_while, zip, bytes_eq}
+use Rattle.std.specs.Prelude.{◌≡◌, ◌⊎◌, ℕ, zero, suc, ◌+◌, ◌==◌, ◌&&◌, ◌||◌, not, Bool, true, false, if◌then◌else◌, List, [], ◌∷◌, ◌++◌, map, reverse, take, drop, Option, Some, None, Err, filter, filter_map, take_while, zip, bytes_eq}
 use Rattle.std.specs.List.{flat_map, list_any}
-use Rattle.carrier_model.specs.Reasons.{TOO_DEEP, OLE_STORAGE, NO_ATTACHMENT, DOUBLE_ATTRIBUTE, BAD_INTERFACE}
+use Rattle.carrier_model.specs.Outcomes.{moved}
+use Rattle.carrier_model.specs.Reasons.{TOO_DEEP, NO_ATTACHMENT, DOUBLE_ATTRIBUTE, BAD_INTERFACE}
+use Rattle.carrier_model.specs.Stores.{store_file, IsStoreFile}
 use Rattle.carrier_model.specs.Trail.{Fault, Test, test, first_fault}
 use Rattle.carrier_model.specs.Attributes.{Attr, Attrs, AttrsFault}
 use Rattle.carrier_model.specs.Grammar.{Form, Means, gives, and_then, choice, Whole, inside}
 use Rattle.carrier_model.specs.Sorted.{choose, with_elements}
 use Rattle.carrier_model.specs.Keys.{key_cmp, is_id}
 use Rattle.carrier_model.specs.Values.{Prop, prop_cmp}
-use Rattle.carrier_model.specs.Tree.{Message, message, Body, nothing, embedded, Attached, attachments_from}
+use Rattle.carrier_model.specs.Tree.{Message, message, Body, nothing, embedded, stored, Attached, attachments_from}
+use Rattle.carrier_model.specs.FileTrees.{Store}
 use Rattle.carrier_model.specs.TnefLists.{PropList, prop_list, recipient_lists}
 use Rattle.carrier_model.specs.LegacyAttributes.{MESSAGE_PROPS, RECIPIENTS, RENDERING, ATTACHMENT, is_message_id, is_attachment_id, legacy_prop}
 
@@ -20,6 +23,17 @@ Passed = Bool × ℕ × ℕ
 pub record Meaning : Type 0 where
   pub message : Message
   pub passed : List Passed
+
+-- what an attachment holds, and what was passed over in it
+pub record Held : Type 0 where
+  pub body : Body
+  pub passed : List Passed
+
+abbrev pub held_message : Meaning → Held
+held_message m = record { body = embedded m.message; passed = m.passed }
+
+abbrev pub held_store : Store → Held
+held_store x = record { body = stored x; passed = [] }
 
 -- ---- what one attribute gives
 
@@ -38,21 +52,21 @@ pub record Part : Type 0 where
 abbrev pub part : Gift → List Passed → Part
 part gift passed = record { gift = gift; passed = passed }
 
-abbrev pub with_inner : PropList → Option Meaning → Part
+abbrev pub with_inner : PropList → Option Held → Part
 with_inner l None = part (attachment l.props nothing) l.passed
-with_inner l (Some m) = part (attachment l.props (embedded m.message)) (l.passed ++ m.passed)
+with_inner l (Some h) = part (attachment l.props h.body) (l.passed ++ h.passed)
 
--- the message in the Object of an attachment's list, where it has one
-abbrev pub inner_of : Whole Meaning → Option (ℕ × List ℕ) → Form (Option Meaning)
+-- what is in the Object of an attachment's list, where it has one
+abbrev pub inner_of : Whole Held → Option (ℕ × List ℕ) → Form (Option Held)
 inner_of objects None = gives None
-inner_of objects (Some x) = and_then (inside objects x.0 x.1) (λ m. gives (Some m))
+inner_of objects (Some x) = and_then (inside objects x.0 x.1) (λ h. gives (Some h))
 
 -- The bytes of an attribute. What stands behind a list is not looked at.
-unfoldable pub content : Whole Meaning → Attr → Form Part
+unfoldable pub content : Whole Held → Attr → Form Part
 content objects a =
     choice (a.id == MESSAGE_PROPS) (and_then (prop_list false) (λ l. gives (part (message_list l.props) l.passed)))
     (choice (a.id == RECIPIENTS) (and_then recipient_lists (λ lists. gives (part (recipients (map (λ l. l.props) lists)) (flat_map (λ l. l.passed) lists))))
-    (choice (a.id == ATTACHMENT) (and_then (prop_list true) (λ l. and_then (inner_of objects l.object) (λ m. gives (with_inner l m))))
+    (choice (a.id == ATTACHMENT) (and_then (prop_list true) (λ l. and_then (inner_of objects l.object) (λ h. gives (with_inner l h))))
     (choice (is_message_id a.id || is_attachment_id a.id) (gives (part no_gift []))
     (gives (part no_gift ((true, a.id, a.offset) ∷ []))))))
 
@@ -75,23 +89,23 @@ place_tests before a =
     ∷ []
 
 -- an attribute may stand behind others, and gives a part
-pub record Stands (objects : Whole Meaning) (before : List Attr) (a : Attr) (p : Part) : Type 0 where
+pub record Stands (objects : Whole Held) (before : List Attr) (a : Attr) (p : Part) : Type 0 where
   pub place : first_fault (place_tests before a) ≡ None
   pub means : Means (content objects a) (a.offset + 9) a.bytes p
 
 -- it may not, or its bytes fail
-abbrev pub AttrFails : Whole Meaning → List Attr → Attr → Fault → Type 0
+abbrev pub AttrFails : Whole Held → List Attr → Attr → Fault → Type 0
 AttrFails objects before a g = (first_fault (place_tests before a) ≡ Some g) ⊎ ((first_fault (place_tests before a) ≡ None) × (content objects a).fails (a.offset + 9) a.bytes g)
 
 -- each attribute stands behind those before it, and gives its part
-abbrev pub AllStand : Whole Meaning → List Attr → List Attr → List Part → Type 0
+abbrev pub AllStand : Whole Held → List Attr → List Attr → List Part → Type 0
 AllStand objects before [] [] = Unit {0}
 AllStand objects before [] (p ∷ ps) = ⊥
 AllStand objects before (a ∷ l) [] = ⊥
 AllStand objects before (a ∷ l) (p ∷ ps) = Stands objects before a p × AllStand objects (before ++ a ∷ []) l ps
 
 -- behind attributes that stand one fails
-pub record FailsBehind (objects : Whole Meaning) (l : List Attr) (g : Fault) : Type 0 where
+pub record FailsBehind (objects : Whole Held) (l : List Attr) (g : Fault) : Type 0 where
   pub before : List Attr
   pub parts : List Part
   pub a : Attr
@@ -127,6 +141,7 @@ body_in (attachment props body) = body
 abbrev pub or_else : Body → Body → Body
 or_else nothing other = other
 or_else (embedded inner) other = embedded inner
+or_else (stored store) other = stored store
 
 -- the body of an attachment, given by one of its attributes
 abbrev pub body_among : List Read → Body
@@ -144,10 +159,11 @@ has_key_of props p = list_any (λ q. choose (key_cmp q.key p.key) false true fal
 abbrev pub joined : List Prop → List Prop → List Prop
 joined props more = with_elements prop_cmp props (filter (λ p. not (has_key_of props p)) more)
 
--- a message in an attachment stands for its data
+-- a message or a store in an attachment stands for its data
 abbrev pub beside : Body → List Prop → List Prop
 beside nothing more = more
 beside (embedded inner) more = filter (λ p. not (is_id 0x3701 p.key)) more
+beside (stored store) more = filter (λ p. not (is_id 0x3701 p.key)) more
 
 abbrev pub attached_by : List Read → Attached
 attached_by reads = (joined (flat_map (λ r. props_in r.1.gift) reads) (beside (body_among reads) (derived reads)), body_among reads)
@@ -172,7 +188,7 @@ meaning_by reads = record { message = message_by reads; passed = flat_map (λ r.
 -- ---- streams
 
 -- the stream at an offset means this, where Objects mean what `objects` says
-pub record StreamMeans (objects : Whole Meaning) (at : ℕ) (bytes : List ℕ) (m : Meaning) : Type 0 where
+pub record StreamMeans (objects : Whole Held) (at : ℕ) (bytes : List ℕ) (m : Meaning) : Type 0 where
   pub attrs : List Attr
   pub there : Attrs at bytes attrs
   pub parts : List Part
@@ -180,12 +196,12 @@ pub record StreamMeans (objects : Whole Meaning) (at : ℕ) (bytes : List ℕ) (
   pub meaning : m ≡ meaning_by (zip attrs parts)
 
 -- the attributes stand there as bytes, and one of them fails
-pub record MessageFails (objects : Whole Meaning) (at : ℕ) (bytes : List ℕ) (g : Fault) : Type 0 where
+pub record MessageFails (objects : Whole Held) (at : ℕ) (bytes : List ℕ) (g : Fault) : Type 0 where
   pub attrs : List Attr
   pub there : Attrs at bytes attrs
   pub fails : FailsBehind objects attrs g
 
-abbrev pub stream : Whole Meaning → Whole Meaning
+abbrev pub stream : Whole Held → Whole Meaning
 stream objects = record {
   means = StreamMeans objects;
   fails = λ at bytes g. AttrsFault at bytes g ⊎ MessageFails objects at bytes g;
@@ -199,33 +215,47 @@ IID_MESSAGE = 0x07 ∷ 0x03 ∷ 0x02 ∷ 0x00 ∷ 0x00 ∷ 0x00 ∷ 0x00 ∷ 0x0
 abbrev pub IID_STORAGE : List ℕ
 IID_STORAGE = 0x0B ∷ 0x00 ∷ 0x00 ∷ 0x00 ∷ 0x00 ∷ 0x00 ∷ 0x00 ∷ 0x00 ∷ 0xC0 ∷ 0x00 ∷ 0x00 ∷ 0x00 ∷ 0x00 ∷ 0x00 ∷ 0x00 ∷ 0x46 ∷ []
 
-abbrev pub interface_tests : ℕ → List ℕ → List Test
-interface_tests at bytes =
-    test (not (bytes_eq (take 16 bytes) IID_STORAGE)) OLE_STORAGE at
-    ∷ test (bytes_eq (take 16 bytes) IID_MESSAGE) BAD_INTERFACE at
-    ∷ []
+abbrev pub has_id : List ℕ → List ℕ → Bool
+has_id interface bytes = bytes_eq (take 16 bytes) interface
 
--- The Object of an attachment: a message's interface, and what stands behind it.
-abbrev pub object_with : Whole Meaning → Whole Meaning
-object_with inner = record {
-  means = λ at bytes m. (first_fault (interface_tests at bytes) ≡ None) × inner.means at bytes m;
-  fails = λ at bytes g. (first_fault (interface_tests at bytes) ≡ Some g) ⊎ ((first_fault (interface_tests at bytes) ≡ None) × inner.fails at bytes g);
-}
+-- what is refused where it begins
+abbrev pub refused : ℕ → Whole Held
+refused reason = record { means = λ at bytes h. ⊥; fails = λ at bytes g. g ≡ (reason, at) }
 
--- the bytes behind an interface's id
-abbrev pub behind_interface : Whole Meaning → Whole Meaning
-behind_interface w = record {
-  means = λ at bytes m. w.means (at + 16) (drop 16 bytes) m;
+-- the bytes behind an interface's id are held
+abbrev pub behind_interface : {X : Type 0} → (X → Held) → Whole X → Whole Held
+behind_interface {X} held w = record {
+  means = λ at bytes h. (x : X) × w.means (at + 16) (drop 16 bytes) x × (h ≡ held x);
   fails = λ at bytes g. w.fails (at + 16) (drop 16 bytes) g;
 }
 
-abbrev pub too_deep : Whole Meaning
-too_deep = record { means = λ at bytes m. ⊥; fails = λ at bytes g. g ≡ (TOO_DEEP, at) }
+-- a compound file that is a store
+abbrev pub store_whole : Whole Store
+store_whole = record {
+  means = λ at bytes x. IsStoreFile bytes x;
+  fails = λ at bytes g. moved at (store_file bytes) ≡ Err g;
+}
+
+-- a message's interface, a store's, or neither
+abbrev pub by_interface : Whole Held → Bool → Bool → Whole Held
+by_interface messages true store = messages
+by_interface messages false true = behind_interface held_store store_whole
+by_interface messages false false = refused BAD_INTERFACE
+
+-- The Object of an attachment: an interface's id, and what stands behind it.
+abbrev pub object_by : Whole Held → List ℕ → Whole Held
+object_by messages bytes = by_interface messages (has_id IID_MESSAGE bytes) (has_id IID_STORAGE bytes)
+
+abbrev pub object_with : Whole Held → Whole Held
+object_with messages = record {
+  means = λ at bytes h. (object_by messages bytes).means at bytes h;
+  fails = λ at bytes g. (object_by messages bytes).fails at bytes g;
+}
 
 -- a message in which at most n levels of messages lie
 unfoldable pub message_within : ℕ → Whole Meaning
-message_within zero = stream (object_with too_deep)
-message_within (suc n) = stream (object_with (behind_interface (message_within n)))
+message_within zero = stream (object_with (refused TOO_DEEP))
+message_within (suc n) = stream (object_with (behind_interface held_message (message_within n)))
 
 abbrev pub GREATEST_LEVEL : ℕ
 GREATEST_LEVEL = 32

@@ -2,10 +2,11 @@
 -- MS-OXMSG, section 2.2; the lines are this program's own.
 use Rattle.std.specs.Prelude.{ℕ, ◌+◌, Bool, true, false, List, [], ◌∷◌, ◌++◌, length, replicate, unwrap_or, codes, decimal}
 use Rattle.std.specs.List.{flat_map}
+use Rattle.carrier_model.specs.FileTrees.{stream_count, byte_count, Store}
 use Rattle.carrier_model.specs.KeyTexts.{upper, hex_digits, key_text}
 use Rattle.carrier_model.specs.KindNames.{kind_name}
 use Rattle.carrier_model.specs.Totals.{capped, all_messages, all_recipients, all_attachments, all_properties}
-use Rattle.carrier_model.specs.Tree.{Message, message, Attachments, no_more, attached, Body, nothing, embedded, depth, names_of}
+use Rattle.carrier_model.specs.Tree.{Message, message, Attachments, no_more, attached, Body, nothing, embedded, stored, depth, names_of}
 use Rattle.carrier_model.specs.TnefMessage.{Passed}
 use Rattle.carrier_model.specs.ValueTexts.{value_text}
 use Rattle.carrier_model.specs.Values.{Prop, kind_of}
@@ -35,6 +36,12 @@ recipient_lines indent i [] = []
 recipient_lines indent i (props ∷ others) =
     line indent (counted (codes "recipient") i) ++ (prop_lines (indent + 2) props ++ recipient_lines indent (i + 1) others)
 
+-- how many streams a store has, and how many bytes are in them
+abbrev pub store_text : Store → List ℕ
+store_text s =
+    counted (codes "storage") (capped (stream_count s.members))
+    ++ (codes " " ++ (counted (codes "streams") (capped (byte_count s.members)) ++ codes " bytes"))
+
 -- A message at an indent; what is in it stands by two further in.
 abbrev mutual
   pub message_lines : ℕ → Message → List ℕ
@@ -51,6 +58,7 @@ abbrev mutual
   pub body_lines : ℕ → Body → List ℕ
   body_lines indent nothing = []
   body_lines indent (embedded inner) = message_lines indent inner
+  body_lines indent (stored store) = line indent (store_text store)
 
 -- every message with every property
 abbrev pub show_text : Message → List ℕ

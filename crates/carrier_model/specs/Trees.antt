@@ -3,7 +3,8 @@ use Rattle.std.specs.Prelude.{◌<◌, ◌≤◌, ◌^◌, List, All}
 use Rattle.carrier_model.specs.Keys.{Name, numbered, texted, Key, id, named}
 use Rattle.carrier_model.specs.Values.{Prop, prop_cmp, IsProp}
 use Rattle.carrier_model.specs.Sorted.{IsStrictlySorted}
-use Rattle.carrier_model.specs.Tree.{Message, message, Attachments, no_more, attached, Body, nothing, embedded, depth}
+use Rattle.carrier_model.specs.Stores.{IsStore}
+use Rattle.carrier_model.specs.Tree.{Message, message, Attachments, no_more, attached, Body, nothing, embedded, stored, depth}
 use Rattle.carrier_model.specs.TnefMessage.{GREATEST_LEVEL}
 
 -- the units of a name's text have 16 bits
@@ -21,7 +22,7 @@ pub record IsPropList (props : List Prop) : Type 0 where
   pub each : All IsProp props
   pub units : All (λ p. KeyHasUnits p.key) props
 
--- each list of a message and of all below it is one
+-- each list of a message and of all below it is one, and each store is one
 abbrev mutual
   pub HasPropLists : Message → Type 0
   HasPropLists (message props recipients attachments) = IsPropList props × (All IsPropList recipients × HavePropLists attachments)
@@ -33,6 +34,7 @@ abbrev mutual
   pub BodyHasPropLists : Body → Type 0
   BodyHasPropLists nothing = Unit {0}
   BodyHasPropLists (embedded inner) = HasPropLists inner
+  BodyHasPropLists (stored store) = IsStore store
 
 -- a message whose embedded messages have at most the greatest level
 pub record IsTree (t : Message) : Type 0 where

@@ -1,13 +1,15 @@
 -- The storages and streams that a message is written as, in a .msg file. [MS-OXMSG 2.1, 2.2, 2.4]
-use Rattle.std.specs.Prelude.{ℕ, ◌+◌, ◌-◌, ◌*◌, ◌==◌, not, if◌then◌else◌, Bool, true, false, List, [], ◌∷◌, ◌++◌, length, replicate, filter, codes}
+use Rattle.std.specs.Prelude.{ℕ, ◌+◌, ◌-◌, ◌*◌, ◌==◌, not, if◌then◌else◌, Bool, true, false, Option, Some, None, List, [], ◌∷◌, ◌++◌, length, replicate, filter, codes}
 use Rattle.std.specs.List.{flat_map}
 use Rattle.carrier_model.specs.Bytes.{le32}
 use Rattle.carrier_model.specs.FileTrees.{FileTree, no_file, stream, storage, and_files, streams_from, NO_CLASS}
 use Rattle.carrier_model.specs.KeyTexts.{upper, hex_digits}
+use Rattle.carrier_model.specs.Layout.{layout, MESSAGE_CLASS}
+use Rattle.carrier_model.specs.Stores.{PROPERTIES}
 use Rattle.carrier_model.specs.Keys.{Name, Key, id, named}
 use Rattle.carrier_model.specs.TnefCanonical.{le_bytes, id_of, comes_before_object}
 use Rattle.carrier_model.specs.TnefLists.{null_of}
-use Rattle.carrier_model.specs.Tree.{Message, message, Attachments, no_more, attached, Body, nothing, embedded, listed, names_of}
+use Rattle.carrier_model.specs.Tree.{Message, message, Attachments, no_more, attached, Body, nothing, embedded, stored, listed, names_of}
 use Rattle.carrier_model.specs.Values.{Value, number, guid, bytes, numbers, guids, parts, Prop, kind_of, number_widths, numbers_widths, width_in}
 use Rattle.carrier_model.specs.WrittenNames.{value_name, name_map_files}
 
@@ -81,24 +83,27 @@ value_field (parts kind list) = le32 (value_size (parts kind list)) ++ le32 0
 abbrev pub entry_bytes : List Name → Prop → List ℕ
 entry_bytes names p = le32 (tag_of names p) ++ (le32 FLAGS ++ value_field p.value)
 
--- an object without a size; the reserved word says that it is a message
-abbrev pub object_entry : List ℕ
-object_entry = le32 OBJECT_TAG ++ (le32 FLAGS ++ (le32 0xFFFFFFFF ++ le32 1))
+-- an object without a size; the reserved word says what it is
+abbrev pub object_entry : ℕ → List ℕ
+object_entry word = le32 OBJECT_TAG ++ (le32 FLAGS ++ (le32 0xFFFFFFFF ++ le32 word))
+
+-- the reserved word of a message or of a store
+abbrev pub object_word : Body → Option ℕ
+object_word nothing = None
+object_word (embedded inner) = Some 1
+object_word (stored store) = Some 4
 
 -- the entries in list order, the object of an attachment in its place by id and type
-abbrev pub entries_bytes : List Name → List Prop → Bool → List ℕ
-entries_bytes names props false = flat_map (entry_bytes names) props
-entries_bytes names props true =
+abbrev pub entries_bytes : List Name → List Prop → Option ℕ → List ℕ
+entries_bytes names props None = flat_map (entry_bytes names) props
+entries_bytes names props (Some word) =
     flat_map (entry_bytes names) (filter comes_before_object props)
-    ++ (object_entry ++ flat_map (entry_bytes names) (filter (λ p. not (comes_before_object p)) props))
+    ++ (object_entry word ++ flat_map (entry_bytes names) (filter (λ p. not (comes_before_object p)) props))
 
 -- ---- storages
 
-abbrev pub PROPERTIES : List ℕ
-PROPERTIES = codes "__properties_version1.0"
-
 -- a property stream behind its head, and the streams of its values
-abbrev pub list_files : List Name → List ℕ → List Prop → Bool → FileTree
+abbrev pub list_files : List Name → List ℕ → List Prop → Option ℕ → FileTree
 list_files names head props object =
     stream PROPERTIES (head ++ entries_bytes names props object) (streams_from (props_streams names props))
 
@@ -119,29 +124,37 @@ numbered_name front n = front ++ hex_digits upper 8 n
 abbrev pub recipient_files : List Name → ℕ → List (List Prop) → FileTree
 recipient_files names i [] = no_file
 recipient_files names i (props ∷ others) =
-    storage (numbered_name (codes "__recip_version1.0_#") i) NO_CLASS (list_files names (replicate 8 0) props false) (recipient_files names (i + 1) others)
-
-abbrev pub is_embedded : Body → Bool
-is_embedded nothing = false
-is_embedded (embedded inner) = true
+    storage (numbered_name (codes "__recip_version1.0_#") i) NO_CLASS (list_files names (replicate 8 0) props None) (recipient_files names (i + 1) others)
 
 abbrev mutual
   pub message_files : List Name → Bool → Message → FileTree
   message_files names top (message props recipients attachments) =
-      and_files (list_files names (head_of top (length recipients) (length (listed attachments))) props false)
+      and_files (list_files names (head_of top (length recipients) (length (listed attachments))) props None)
       (and_files (recipient_files names 0 recipients) (attachment_files names 0 attachments))
 
   pub attachment_files : List Name → ℕ → Attachments → FileTree
   attachment_files names i no_more = no_file
   attachment_files names i (attached props body others) =
       storage (numbered_name (codes "__attach_version1.0_#") i) NO_CLASS
-      (and_files (list_files names (replicate 8 0) props (is_embedded body)) (body_files names body))
+      (and_files (list_files names (replicate 8 0) props (object_word body)) (body_files names body))
       (attachment_files names (i + 1) others)
 
   pub body_files : List Name → Body → FileTree
   body_files names nothing = no_file
   body_files names (embedded inner) = storage (value_name OBJECT_TAG) NO_CLASS (message_files names false inner) no_file
+  body_files names (stored store) = storage (value_name OBJECT_TAG) store.class store.members no_file
 
 -- the name map, and the message at the top; embedded messages use the ids of the whole tree
 abbrev pub files_of : Message → FileTree
 files_of t = storage (codes "__nameid_version1.0") NO_CLASS (name_map_files (names_of t)) (message_files (names_of t) true t)
+
+-- the .msg file of a message, in sectors of z bytes
+abbrev pub msg_in : ℕ → Message → List ℕ
+msg_in z t = layout z MESSAGE_CLASS (files_of t)
+
+-- the canonical .msg file of version 3, and that of version 4
+abbrev pub msg_of : Message → List ℕ
+msg_of t = msg_in 512 t
+
+abbrev pub msg4_of : Message → List ℕ
+msg4_of t = msg_in 4096 t

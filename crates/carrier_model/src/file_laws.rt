@@ -4,11 +4,12 @@ ghost use Rattle.std.specs.List.{AllByRecursion, IsDistinct};
 ghost use Rattle.carrier_model.specs.Chains.{Run, longest, after, end_word, chain_of, FreshChain, member};
 ghost use Rattle.carrier_model.specs.Entries.{Entry};
 ghost use Rattle.carrier_model.specs.FileTrees.{FileTree, sorted};
-ghost use Rattle.carrier_model.specs.Files.{Files, open_of};
+ghost use Rattle.carrier_model.specs.Files.{Files, open_file};
 ghost use Rattle.carrier_model.specs.Layout.{layout};
-ghost use Rattle.carrier_model.specs.LayoutHolds.{LayoutsAreFound, MayBeWritten, bare, classless};
-ghost use Rattle.carrier_model.specs.Targets.{MOST_BYTES};
-ghost use Rattle.carrier_model.specs.Holds.{Holds, IsLoaded, IsStream};
+ghost use Rattle.carrier_model.specs.LayoutHolds.{LayoutsAreFound, MayBeWritten};
+ghost use Rattle.carrier_model.specs.Holds.{Holds, FileHolds, IsLoaded, IsStream};
+ghost use Rattle.carrier_model.specs.Stores.{bare};
+ghost use Rattle.carrier_model.specs.Bytes.{MOST_BYTES};
 ghost use Rattle.carrier_model.specs.Loads.{Loaded, load_of, taken_by, claim_of, long_part, short_part};
 ghost use Rattle.carrier_model.specs.Sectors.{is_size};
 ghost use Rattle.carrier_model.specs.Trail.{Fault};
@@ -49,15 +50,20 @@ pub fn claims_are_exact()
 /// What is answered of a file are the files that it holds, and they are answered wherever it holds any. So it holds no
 /// others, and none where there is a fault.
 pub fn files_are_exact()
-    ensures sound { (z : ℕ) (b : List ℕ) (f : Files) → open_of z b ≡ Ok f → Holds z b f }
-    ensures only { (z : ℕ) (b : List ℕ) (f : Files) → IsTrue (is_size z) → length b ≤ MOST_BYTES → Holds z b f → open_of z b ≡ Ok f }
-    ensures one { (z : ℕ) (b : List ℕ) (f g : Files) → IsTrue (is_size z) → length b ≤ MOST_BYTES → Holds z b f → Holds z b g → f ≡ g }
-    ensures none { (z : ℕ) (b : List ℕ) (f : Files) (g : Fault) → IsTrue (is_size z) → length b ≤ MOST_BYTES → open_of z b ≡ Err g → Holds z b f → ⊥ }
+    ensures sound { (b : List ℕ) (f : Files) → open_file b ≡ Ok f → FileHolds b f }
+    ensures only { (b : List ℕ) (f : Files) → length b ≤ MOST_BYTES → FileHolds b f → open_file b ≡ Ok f }
+    ensures one { (b : List ℕ) (f g : Files) → length b ≤ MOST_BYTES → FileHolds b f → FileHolds b g → f ≡ g }
+    ensures none { (b : List ℕ) (f : Files) (g : Fault) → length b ≤ MOST_BYTES → open_file b ≡ Err g → FileHolds b f → ⊥ }
 {}
 
-/// The file that a tree of storages and streams is written as holds that tree, and opening it answers so. Siblings stand
-/// in the order in which they are written.
+/// A file holds files in sectors of either size only where its version says that size.
+pub fn versions_say_sizes()
+    ensures { (z : ℕ) (b : List ℕ) (f : Files) → IsTrue (is_size z) → Holds z b f → FileHolds b f }
+{}
+
+/// The file that a tree of storages and streams is written as, in either version, holds that tree with its classes, and
+/// opening it answers so. Siblings stand in the order in which they are written.
 pub fn layouts_are_found()
-    ensures found { LayoutsAreFound 512 }
-    ensures opened { (files : FileTree) → MayBeWritten files → length (layout 512 files) ≤ MOST_BYTES → (f : Files) × (open_of 512 (layout 512 files) ≡ Ok f) × (bare f.children ≡ classless (sorted files)) }
+    ensures found { LayoutsAreFound }
+    ensures opened { (z : ℕ) (class : List ℕ) (files : FileTree) → IsTrue (is_size z) → length class ≡ 16 → MayBeWritten files → length (layout z class files) ≤ MOST_BYTES → (f : Files) × (open_file (layout z class files) ≡ Ok f) × (f.class ≡ class) × (bare f.children ≡ sorted files) }
 {}

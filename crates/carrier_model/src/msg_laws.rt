@@ -1,11 +1,12 @@
 //! Laws about .msg files.
-ghost use Rattle.std.specs.Prelude.{◌≡◌, ◌≤◌, ℕ, Bool, List, [], length, IsTrue, IsPermutation, Ok, Err};
+ghost use Rattle.std.specs.Prelude.{◌≡◌, ◌≤◌, ℕ, Bool, List, [], length, IsPermutation, Ok, Err, Option, IsTrue};
 ghost use Rattle.carrier_model.specs.Bytes.{AllBytes};
 ghost use Rattle.carrier_model.specs.FileTrees.{sorted};
 ghost use Rattle.carrier_model.specs.Files.{Children, Files};
 ghost use Rattle.carrier_model.specs.Holds.{AreApart, child_names};
 ghost use Rattle.carrier_model.specs.Sorted.{IsStrictlySorted};
-ghost use Rattle.carrier_model.specs.LayoutHolds.{bare, classless, MayBeWritten};
+ghost use Rattle.carrier_model.specs.LayoutHolds.{MayBeWritten};
+ghost use Rattle.carrier_model.specs.Stores.{bare};
 ghost use Rattle.carrier_model.specs.WrittenMsg.{files_of};
 ghost use Rattle.carrier_model.specs.MsgMessage.{numbered_in, number_cmp, in_order, files_meaning, file_meaning, FilesMean, MsgCarrier, MsgFault};
 ghost use Rattle.carrier_model.specs.MsgProps.{Part, Section, MsgProps, props_of};
@@ -13,7 +14,6 @@ ghost use Rattle.carrier_model.specs.MsgValues.{Streams};
 ghost use Rattle.carrier_model.specs.NameMap.{NameStreams, Pair, NamePairs, pairs_of, pairs_from};
 ghost use Rattle.carrier_model.specs.Keys.{Name};
 ghost use Rattle.carrier_model.specs.ReadBack.{AreNames, HasNameMap, HasList, HasFewParts, StreamsFit, NamesAmong, IsReadAs};
-ghost use Rattle.carrier_model.specs.Sectors.{is_size};
 ghost use Rattle.carrier_model.specs.TnefMessage.{Meaning, Passed};
 ghost use Rattle.carrier_model.specs.Values.{Prop};
 ghost use Rattle.carrier_model.specs.Trail.{IsExact};
@@ -44,12 +44,11 @@ pub fn files_mean_one_message()
 {}
 
 /// What is answered of a .msg file is the message that it carries, with what was passed over, and it is answered
-/// wherever there is one. So a file carries at most one message, or has one first fault, and not both. z is the sector
-/// size.
+/// wherever there is one. So a file carries at most one message, or has one first fault, and not both.
 pub fn msg_carriers_are_exact()
-    ensures sound { (z : ℕ) (b : List ℕ) (m : Meaning) → file_meaning z b ≡ Ok m → MsgCarrier z b m.message m.passed }
-    ensures only { (z : ℕ) (b : List ℕ) (m : Meaning) → IsTrue (is_size z) → length b ≤ 268435456 → MsgCarrier z b m.message m.passed → file_meaning z b ≡ Ok m }
-    ensures exact { (z : ℕ) (b : List ℕ) → IsTrue (is_size z) → length b ≤ 268435456 → IsExact (λ (m : Meaning). MsgCarrier z b m.message m.passed) (MsgFault z b) }
+    ensures sound { (b : List ℕ) (m : Meaning) → file_meaning b ≡ Ok m → MsgCarrier b m.message m.passed }
+    ensures only { (b : List ℕ) (m : Meaning) → length b ≤ 268435456 → MsgCarrier b m.message m.passed → file_meaning b ≡ Ok m }
+    ensures exact { (b : List ℕ) → length b ≤ 268435456 → IsExact (λ (m : Meaning). MsgCarrier b m.message m.passed) (MsgFault b) }
 {}
 
 /// The name map that is written is read back: the k-th name, from 0, has the id 8000 plus k.
@@ -58,20 +57,20 @@ pub fn written_names_are_read()
 {}
 
 /// What a .msg file means is a tree whose lists are sorted and whose values are of their kinds' forms and ranges, where
-/// it is made of bytes and no longer than the greatest input. z is the sector size.
+/// it is made of bytes and no longer than the greatest input.
 pub fn msg_carriers_are_trees()
-    ensures { (z : ℕ) (b : List ℕ) (t : Message) (passed : List Passed) → IsTrue (is_size z) → AllBytes b → length b ≤ 268435456 → MsgCarrier z b t passed → IsTree t }
+    ensures { (b : List ℕ) (t : Message) (passed : List Passed) → AllBytes b → length b ≤ 268435456 → MsgCarrier b t passed → IsTree t }
 {}
 
-/// A property list that is written to streams is read back, with the entry of an embedded message or without.
+/// A property list that is written to streams is read back, with the entry of an object or without.
 pub fn written_lists_are_read()
-    ensures { (part : Part) (names : List Name) (place : ℕ) (streams : Streams) (props : List Prop) (inner : Bool) → length names ≤ 32000 → IsPropList props → NamesAmong names props → HasList part names streams props inner → IsReadAs (props_of part (pairs_from 0 names) place streams) props inner }
+    ensures { (part : Part) (names : List Name) (place : ℕ) (streams : Streams) (props : List Prop) (object : Option ℕ) → length names ≤ 32000 → IsPropList props → NamesAmong names props → HasList part names streams props object → IsReadAs (props_of part (pairs_from 0 names) place streams) props object }
 {}
 
 /// The files that are written for a message, found in the order of their siblings, mean that message and nothing else,
 /// and have no fault.
 pub fn written_files_mean_the_message()
-    ensures { (t : Message) (root : Files) → IsTree t → length (names_of t) ≤ 32000 → HasFewParts t → bare root.children ≡ classless (sorted (files_of t)) → files_meaning root ≡ Ok (record { message = t; passed = [] }) }
+    ensures { (t : Message) (root : Files) → IsTree t → length (names_of t) ≤ 32000 → HasFewParts t → bare root.children ≡ sorted (files_of t) → files_meaning root ≡ Ok (record { message = t; passed = [] }) }
 {}
 
 /// The files of a message may be written to a compound file, whose streams have room for their bytes: their names are

@@ -3,7 +3,8 @@ ghost use Rattle.std.specs.Prelude.{◌≡◌, ◌++◌, ◌∷◌, [], length, 
 ghost use Rattle.carrier_model.specs.Bytes.{le16, le32};
 ghost use Rattle.carrier_model.specs.KeyTexts.{label_family};
 ghost use Rattle.carrier_model.specs.Keys.{numbered};
-ghost use Rattle.carrier_model.specs.Layout.{msg_of, fat_count, suffices};
+ghost use Rattle.carrier_model.specs.Layout.{fat_count, suffices};
+ghost use Rattle.carrier_model.specs.WrittenMsg.{msg_of, msg4_of};
 ghost use Rattle.carrier_model.specs.SampleTrees.{integer32, zeros_prop};
 ghost use Rattle.carrier_model.specs.TnefCanonical.{tnef_of};
 ghost use Rattle.carrier_model.specs.Tree.{message, no_more};
@@ -34,6 +35,16 @@ pub fn the_file_of_an_empty_message()
     ensures root_child { take 4 (drop 1100 (msg_of (message [] [] no_more))) ≡ le32 1 }
     ensures map_links { take 12 (drop 1220 (msg_of (message [] [] no_more))) ≡ le32 0xFFFFFFFF ++ (le32 5 ++ le32 3) }
     ensures properties { take 8 (drop 1780 (msg_of (message [] [] no_more))) ≡ le32 0 ++ le32 32 }
+{}
+
+/// The same of version 4: its length, the number of its directory's sectors, its table, and where its parts begin.
+pub fn the_file_of_version_4()
+    ensures length { length (msg4_of (message [] [] no_more)) ≡ 20480 }
+    ensures versions { take 8 (drop 26 (msg4_of (message [] [] no_more))) ≡ le16 4 ++ (le16 0xFFFE ++ (le16 12 ++ le16 6)) }
+    ensures directory { take 4 (drop 40 (msg4_of (message [] [] no_more))) ≡ le32 1 }
+    ensures table { take 20 (drop 4096 (msg4_of (message [] [] no_more))) ≡ le32 0xFFFFFFFD ++ (le32 0xFFFFFFFE ++ (le32 0xFFFFFFFE ++ (le32 0xFFFFFFFE ++ le32 0xFFFFFFFF))) }
+    ensures root { take 8 (drop 8192 (msg4_of (message [] [] no_more))) ≡ le16 0x52 ++ (le16 0x6F ++ (le16 0x6F ++ le16 0x74)) }
+    ensures mini_table { take 4 (drop 12288 (msg4_of (message [] [] no_more))) ≡ le32 0xFFFFFFFE }
 {}
 
 /// The entry of an Integer32 property in the property stream of its file.

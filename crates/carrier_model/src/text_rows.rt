@@ -1,6 +1,6 @@
 //! Texts and samples, computed on small trees.
 ghost use Rattle.std.specs.Prelude.{◌≡◌, ◌∷◌, [], codes, Some, None};
-ghost use Rattle.carrier_model.specs.Commands.{command_of, translate, to_msg, sample};
+ghost use Rattle.carrier_model.specs.Commands.{command_of, translate, to_msg, to_msg4, sample};
 ghost use Rattle.carrier_model.specs.Limits.{too_many_recipients};
 ghost use Rattle.carrier_model.specs.ReportTexts.{report_text, refused, unfit, done};
 ghost use Rattle.carrier_model.specs.SampleTrees.{sample_text, integer32};
@@ -21,6 +21,7 @@ pub fn the_first_sample()
 /// Words that are commands, and words that are not.
 pub fn commands_by_their_words()
     ensures one { command_of (codes "to-msg" ∷ []) ≡ Some (translate to_msg) }
+    ensures later { command_of (codes "to-msg4" ∷ []) ≡ Some (translate to_msg4) }
     ensures two { command_of (codes "sample" ∷ codes "5000" ∷ []) ≡ Some (sample 5000) }
     ensures zero { command_of (codes "sample" ∷ codes "0" ∷ []) ≡ Some (sample 0) }
     ensures none { command_of [] ≡ None }

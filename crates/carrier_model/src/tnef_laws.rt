@@ -1,6 +1,6 @@
 //! Laws about what a TNEF stream means.
 ghost use Rattle.std.specs.Prelude.{◌≡◌, ◌<◌, ◌≤◌, ◌^◌, ℕ, List, [], Bool, Some, None, length};
-ghost use Rattle.carrier_model.specs.Bytes.{AllBytes};
+ghost use Rattle.carrier_model.specs.Bytes.{AllBytes, MOST_BYTES};
 ghost use Rattle.carrier_model.specs.Commands.{to_tnef};
 ghost use Rattle.carrier_model.specs.Grammar.{Means};
 ghost use Rattle.carrier_model.specs.Keys.{Name};
@@ -36,9 +36,9 @@ pub fn canonical_lists_mean_themselves()
 
 /// The canonical stream of a tree means that tree, with nothing passed over. It means no other, and has no fault.
 pub fn canonical_tnef_means_its_tree()
-    ensures means { (t : Message) → IsTree t → length (names_of t) ≤ 32000 → length (tnef_of t) < 2 ^ 32 → TnefCarrier (tnef_of t) t [] }
-    ensures alone { (t other : Message) (passed : List Passed) → IsTree t → length (names_of t) ≤ 32000 → length (tnef_of t) < 2 ^ 32 → TnefCarrier (tnef_of t) other passed → (other ≡ t) × (passed ≡ []) }
-    ensures faultless { (t : Message) (g : Fault) → IsTree t → length (names_of t) ≤ 32000 → length (tnef_of t) < 2 ^ 32 → TnefFault (tnef_of t) g → ⊥ }
+    ensures means { (t : Message) → IsTree t → length (names_of t) ≤ 32000 → length (tnef_of t) ≤ MOST_BYTES → TnefCarrier (tnef_of t) t [] }
+    ensures alone { (t other : Message) (passed : List Passed) → IsTree t → length (names_of t) ≤ 32000 → length (tnef_of t) ≤ MOST_BYTES → TnefCarrier (tnef_of t) other passed → (other ≡ t) × (passed ≡ []) }
+    ensures faultless { (t : Message) (g : Fault) → IsTree t → length (names_of t) ≤ 32000 → length (tnef_of t) ≤ MOST_BYTES → TnefFault (tnef_of t) g → ⊥ }
 {}
 
 /// What a TNEF stream means is such a tree, where it is made of bytes and no longer than the greatest input.

@@ -1,20 +1,23 @@
 //! Laws about .msg files that are written.
-ghost use Rattle.std.specs.Prelude.{◌≡◌, ◌≤◌, ℕ, List, [], length, None};
-ghost use Rattle.carrier_model.specs.Commands.{to_msg};
-ghost use Rattle.carrier_model.specs.Layout.{msg_of};
+ghost use Rattle.std.specs.Prelude.{◌≡◌, ◌≤◌, ℕ, List, [], length, None, IsTrue};
+ghost use Rattle.carrier_model.specs.Commands.{to_msg, to_msg4};
 ghost use Rattle.carrier_model.specs.MsgMessage.{MsgCarrier, MsgFault};
 ghost use Rattle.carrier_model.specs.ReadBack.{HasFewParts};
-ghost use Rattle.carrier_model.specs.Targets.{MOST_BYTES, passed_limit};
+ghost use Rattle.carrier_model.specs.Sectors.{is_size};
+ghost use Rattle.carrier_model.specs.Targets.{passed_limit};
+ghost use Rattle.carrier_model.specs.WrittenMsg.{msg_of, msg_in, msg4_of};
+ghost use Rattle.carrier_model.specs.Bytes.{MOST_BYTES};
 ghost use Rattle.carrier_model.specs.TnefMessage.{Passed};
 ghost use Rattle.carrier_model.specs.Trail.{Fault};
 ghost use Rattle.carrier_model.specs.Tree.{Message, names_of};
 ghost use Rattle.carrier_model.specs.Trees.{IsTree};
 
-/// The .msg file of a message within the limits carries that message, with nothing passed over. It carries no other, and
-/// has no fault.
+/// The .msg file of a message within the limits, in either version, carries that message, with nothing passed over. It
+/// carries no other, and has no fault.
 pub fn written_files_carry_their_message()
-    ensures carries { (t : Message) → IsTree t → length (names_of t) ≤ 32000 → HasFewParts t → length (msg_of t) ≤ MOST_BYTES → MsgCarrier 512 (msg_of t) t [] }
-    ensures within { (t : Message) (b : List ℕ) → IsTree t → passed_limit to_msg t b ≡ None → MsgCarrier 512 (msg_of t) t [] }
-    ensures alone { (t other : Message) (passed : List Passed) → IsTree t → length (names_of t) ≤ 32000 → HasFewParts t → length (msg_of t) ≤ MOST_BYTES → MsgCarrier 512 (msg_of t) other passed → (other ≡ t) × (passed ≡ []) }
-    ensures faultless { (t : Message) (g : Fault) → IsTree t → length (names_of t) ≤ 32000 → HasFewParts t → length (msg_of t) ≤ MOST_BYTES → MsgFault 512 (msg_of t) g → ⊥ }
+    ensures carries { (z : ℕ) (t : Message) → IsTrue (is_size z) → IsTree t → length (names_of t) ≤ 32000 → HasFewParts t → length (msg_in z t) ≤ MOST_BYTES → MsgCarrier (msg_in z t) t [] }
+    ensures within { (t : Message) (b : List ℕ) → IsTree t → passed_limit to_msg t b ≡ None → MsgCarrier (msg_of t) t [] }
+    ensures within4 { (t : Message) (b : List ℕ) → IsTree t → passed_limit to_msg4 t b ≡ None → MsgCarrier (msg4_of t) t [] }
+    ensures alone { (z : ℕ) (t other : Message) (passed : List Passed) → IsTrue (is_size z) → IsTree t → length (names_of t) ≤ 32000 → HasFewParts t → length (msg_in z t) ≤ MOST_BYTES → MsgCarrier (msg_in z t) other passed → (other ≡ t) × (passed ≡ []) }
+    ensures faultless { (z : ℕ) (t : Message) (g : Fault) → IsTrue (is_size z) → IsTree t → length (names_of t) ≤ 32000 → HasFewParts t → length (msg_in z t) ≤ MOST_BYTES → MsgFault (msg_in z t) g → ⊥ }
 {}

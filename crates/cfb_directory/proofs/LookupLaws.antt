@@ -18,7 +18,7 @@ use Rattle.std.specs.Option.{option_map}
 use Rattle.cfb_sectors.specs.Seen.{stream as stream_seen}
 use Rattle.cfb_sectors.specs.Views.{entry as entry_seen}
 use Rattle.cfb_directory.specs.declared.files.Files.{Files as Opened}
-use Rattle.cfb_directory.specs.Found.{Child, children_list, storage_seen}
+use Rattle.cfb_directory.specs.Found.{Child, children_list, child_stream, storage_seen}
 use Rattle.cfb_directory.specs.Nodes.{no_entry, no_stream, entry_in, place_in, stream_in}
 use Rattle.cfb_directory.specs.Named.{found, first_named, are_apart}
 use Rattle.cfb_directory.specs.Shapes.{table_of, key_in, deepest, tree_at}
@@ -33,7 +33,7 @@ key_at T id = folded (name_of (T.entry id))
 -- the storage, or the stream, that an entry is
 abbrev pub storage_pick : Table → (ℕ → Children) → Option ℕ → Option Files
 storage_pick T below None = None
-storage_pick T below (Some id) = cond (is_storage (T.entry id)) (Some (record { place = T.place id; children = below id })) None
+storage_pick T below (Some id) = cond (is_storage (T.entry id)) (Some (record { place = T.place id; class = (T.entry id).class; children = below id })) None
 
 abbrev pub stream_pick : Table → Option ℕ → Option Found
 stream_pick T None = None
@@ -191,3 +191,33 @@ some_child name s = Some (record { name = name; storage = s })
 
 pub same_child : (a b : List ℕ) (s t : Option Files) → a ≡ b → s ≡ t → some_child a s ≡ some_child b t
 same_child a b s t h k = rw (h, k) refl
+
+-- the stream at a place
+stream_past : (T : Table) (below : ℕ → Children) (ids : List ℕ) (k : ℕ) → length ids ≤ k → child_stream (built T below ids none) k ≡ None
+stream_past T below [] k past = refl
+stream_past T below (id ∷ ids) zero past = absurd (omega arith)
+stream_past T below (id ∷ ids) (suc k) past =
+    elim (cases_Bool (is_storage (T.entry id))) [
+      | inl ours ↦ rw ours (stream_past T below ids k (omega arith))
+      | inr other ↦ rw other (stream_past T below ids k (omega arith))
+    ]
+
+stream_here : (T : Table) (below : ℕ → Children) (ids : List ℕ) (k id : ℕ) → k < length ids → id ≡ get_or ids k id → child_stream (built T below ids none) k ≡ cond (is_storage (T.entry id)) None (Some (T.stream id))
+stream_here T below [] k id inside is = absurd (omega arith)
+stream_here T below (x ∷ ids) zero id inside is =
+    subst (λ y. child_stream (built T below (x ∷ ids) none) 0 ≡ cond (is_storage (T.entry y)) None (Some (T.stream y))) (sym is)
+    (elim (cases_Bool (is_storage (T.entry x))) [
+      | inl ours ↦ rw ours refl
+      | inr other ↦ rw other refl
+    ])
+stream_here T below (x ∷ ids) (suc k) id inside is =
+    elim (cases_Bool (is_storage (T.entry x))) [
+      | inl ours ↦ rw ours (stream_here T below ids k id (omega arith) is)
+      | inr other ↦ rw other (stream_here T below ids k id (omega arith) is)
+    ]
+
+pub child_stream_past : (nodes : List Node) (families : List Family) (at k : ℕ) → ends (family_at families) deepest at ≡ true → length (family_at families at) ≤ k → child_stream (tree_at nodes families at) k ≡ None
+child_stream_past nodes families at k deep past = ap (λ c. child_stream c k) (tree_step nodes families at deep) ∙ stream_past (table_of nodes families) (tree_at nodes families) (family_at families at) k past
+
+pub child_stream_there : (nodes : List Node) (families : List Family) (at k id : ℕ) → ends (family_at families) deepest at ≡ true → k < length (family_at families at) → id ≡ get_or (family_at families at) k id → child_stream (tree_at nodes families at) k ≡ cond (is_storage (entry_in nodes id)) None (Some (stream_in nodes id))
+child_stream_there nodes families at k id deep inside is = ap (λ c. child_stream c k) (tree_step nodes families at deep) ∙ stream_here (table_of nodes families) (tree_at nodes families) (family_at families at) k id inside is

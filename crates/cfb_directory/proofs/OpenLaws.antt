@@ -8,16 +8,17 @@ use Rattle.carrier_model.specs.Trail.{Fault}
 use Rattle.carrier_model.specs.Outcomes.{◌>>=◌, mapped}
 use Rattle.carrier_model.specs.Chains.{member}
 use Rattle.carrier_model.specs.Entries.{Entry, entry_at}
-use Rattle.carrier_model.specs.Files.{Files, none, Opened, Claim, directory_in, first_link, all_families, names_of, stream_ids, claims_of, chain_in, tree_of, files_of, opened_of, open_of}
+use Rattle.carrier_model.specs.Files.{Files, none, Opened, Claim, directory_in, first_link, all_families, names_of, stream_ids, claims_of, chain_in, tree_of, files_of, opened_of, open_of, open_file}
 use Rattle.carrier_model.specs.Links.{Directory, Links, leaf, node, ids, Linked, links_of, below_depth, below_link}
 use Rattle.carrier_model.specs.Loads.{Loaded, load_of, taken_by, stream_of}
 use Rattle.carrier_model.specs.Marks.{Marks}
 use Rattle.carrier_model.specs.Streams.{Stream}
+use Rattle.carrier_model.specs.Tables.{sector_size}
 use Rattle.carrier_io.specs.declared.reasons.Stop.{Stop}
 use Rattle.carrier_io.specs.declared.reasons.Stop.TheVariants as stops
 use Rattle.carrier_io.specs.Reads.{Fails}
 use Rattle.cfb_sectors.specs.States.{State, entries, entry_of, place_of}
-use Rattle.cfb_directory.specs.Nodes.{AreNodes, no_entry, place_in, is_wanted, claims_in}
+use Rattle.cfb_directory.specs.Nodes.{AreNodes, no_entry, entry_in, place_in, is_wanted, claims_in}
 use Rattle.std.specs.List.{All}
 use Rattle.std.specs.Cmp.Lexicographic.{pointwise}
 use Rattle.std.proofs.lemmas.List.Elements.{All-head, All-tail}
@@ -131,7 +132,8 @@ shape_is s outline t cs nodes o root are count =
     let place : place_in nodes 0 ≡ place_of s 0 = are.places 0 (rw count o.some) in
     let tree : under T 102 0 ≡ tree_of d (λ id. stream_of s.size s.file s.loaded (entry_of s id) (chain_in cs id)) t none =
     ap (λ l. built T (under T 101) l none) (outline_own T.kids t l.1 o.kids) ∙ tree_built T d _ t 101 none (omega arith) (nodes_agree s outline t cs nodes o root are count) in
-    rw (place, tree) refl
+    let class : (entry_in nodes 0).class ≡ (entry_of s 0).class = ap (λ (e : Entry). e.class) (are.entries 0 (rw count o.some)) in
+    rw (place, class, tree) refl
 
 pub shape_ends : (s : State) (outline : Outline) (t : Links) → IsOutline (directory_of s) outline t → (id : ℕ) → ends (family_at outline.families.items) deepest id ≡ true
 shape_ends s outline t o id =
@@ -173,13 +175,13 @@ shape_apart s outline t wanted cs nodes o are count p =
 short_of : (n : ℕ) (units : List ℕ) → length (folded (take n units)) ≤ length units
 short_of n units = rw (length-map, length-take n units) (omega arith)
 
-short_name : (b : List ℕ) (o : ℕ) → length (folded (name_of (entry_at b o))) ≤ 32
-short_name b o = short_of ((entry_at b o).name_bytes / 2 - 1) (entry_at b o).units
+short_name : (z : ℕ) (b : List ℕ) (o : ℕ) → length (folded (name_of (entry_at z b o))) ≤ 32
+short_name z b o = short_of ((entry_at z b o).name_bytes / 2 - 1) (entry_at z b o).units
 
 pub shape_short : (s : State) (wanted : ℕ → Bool) (cs : List Claim) (nodes : List Node) → AreNodes s wanted cs nodes → (id : ℕ) → length (key_in nodes id) ≤ 32
 shape_short s wanted cs nodes are id =
     elim (cases_lt id (length nodes)) [
-      | inl below ↦ subst (λ (e : Entry). length (folded (name_of e)) ≤ 32) (sym (are.entries id below)) (short_name s.file (place_of s id))
+      | inl below ↦ subst (λ (e : Entry). length (folded (name_of e)) ≤ 32) (sym (are.entries id below)) (short_name s.size s.file (place_of s id))
       | inr past ↦
           let over : length (map (λ (n : Node). entry_seen n.entry) nodes) ≤ id = rw length-map past in
           subst (λ (e : Entry). length (folded (name_of e)) ≤ 32) (sym (get_or_past (map (λ (n : Node). entry_seen n.entry) nodes) id no_entry over)) (omega arith)
@@ -195,7 +197,7 @@ open_stops s outline t e load o root h =
     claims_stop s.size s.file s.loaded t e load o.linked o.apart (subst (λ l. Fails e (claims_in s l (taken_by s.loaded) [])) (streams_wanted (directory_of s) t outline.visited o.marks o.length root) h)
 
 -- the same of a file whose parts are named otherwise
-pub load_same : (s : State) (b : List ℕ) → (s.file ≡ b) × (s.size ≡ 512) → load_of 512 b ≡ Ok s.loaded → load_of s.size s.file ≡ Ok s.loaded
+pub load_same : (s : State) (b : List ℕ) → (s.file ≡ b) × (s.size ≡ sector_size b) → load_of (sector_size b) b ≡ Ok s.loaded → load_of s.size s.file ≡ Ok s.loaded
 load_same s b h is = rw (h.0, h.1) is
 
 -- the steps of two parts, where they are too few to reach the greatest count
@@ -208,13 +210,13 @@ answered o = Ok o
 pub opened_once : (x y : Opened) → answered x ≡ answered y → x ≡ y
 opened_once x y h = cc
 
-pub stopped_same : (s : State) (b : List ℕ) (e : Stop) → (s.file ≡ b) × (s.size ≡ 512) → Fails e (open_of s.size s.file) → Fails e (open_of 512 b)
+pub stopped_same : (s : State) (b : List ℕ) (e : Stop) → (s.file ≡ b) × (s.size ≡ sector_size b) → Fails e (open_of s.size s.file) → Fails e (open_file b)
 stopped_same s b e h is = subst (λ z. Fails e (open_of z b)) h.1 (subst (λ f. Fails e (open_of s.size f)) h.0 is)
 
-pub opened_same : (s : State) (b : List ℕ) (r : Result Opened Fault) → (s.file ≡ b) × (s.size ≡ 512) → opened_of s.size s.file ≡ r → opened_of 512 b ≡ r
+pub opened_same : (s : State) (b : List ℕ) (r : Result Opened Fault) → (s.file ≡ b) × (s.size ≡ sector_size b) → opened_of s.size s.file ≡ r → opened_of (sector_size b) b ≡ r
 opened_same s b r h is = subst (λ z. opened_of z b ≡ r) h.1 (subst (λ f. opened_of s.size f ≡ r) h.0 is)
 
-pub files_same : (s : State) (b : List ℕ) (cs : List Claim) (t : Links) (f : Files) → (s.file ≡ b) × (s.size ≡ 512) → f ≡ files_of s.size s.file s.loaded (chain_in cs) t → opened_of s.size s.file ≡ Ok (record { loaded = s.loaded; links = t; claims = cs }) → open_of 512 b ≡ Ok f
+pub files_same : (s : State) (b : List ℕ) (cs : List Claim) (t : Links) (f : Files) → (s.file ≡ b) × (s.size ≡ sector_size b) → f ≡ files_of s.size s.file s.loaded (chain_in cs) t → opened_of s.size s.file ≡ Ok (record { loaded = s.loaded; links = t; claims = cs }) → open_file b ≡ Ok f
 files_same s b cs t f h is opened =
     subst (λ z. open_of z b ≡ Ok f) h.1 (subst (λ l. open_of s.size l ≡ Ok f) h.0
     (ap (λ (r : Result Opened Fault). mapped (λ o. files_of s.size s.file o.loaded (chain_in o.claims) o.links) r) opened ∙ ap (λ (f : Files). Ok f) (sym is)))

@@ -45,7 +45,7 @@ tree_built T d streams (node id l r c) (suc j) rest deep same =
     ∙ (ap (built T (under T (suc j)) (siblings l)) (one below after)
     ∙ tree_built T d streams l (suc j) _ (omega arith) same.4)
   where
-    one : under T (suc j) id ≡ tree_of d streams c none → built T (under T (suc j)) (siblings r) rest ≡ tree_of d streams r rest → built T (under T (suc j)) (id ∷ siblings r) rest ≡ cond (is_storage (d.entry id)) (storage (record { name = name_of (d.entry id); id = id; place = d.place id }) (tree_of d streams c none) (tree_of d streams r rest)) (stream (record { name = name_of (d.entry id); id = id; place = d.place id }) (streams id) (tree_of d streams r rest))
+    one : under T (suc j) id ≡ tree_of d streams c none → built T (under T (suc j)) (siblings r) rest ≡ tree_of d streams r rest → built T (under T (suc j)) (id ∷ siblings r) rest ≡ cond (is_storage (d.entry id)) (storage (record { name = name_of (d.entry id); id = id; place = d.place id; class = (d.entry id).class }) (tree_of d streams c none) (tree_of d streams r rest)) (stream (record { name = name_of (d.entry id); id = id; place = d.place id; class = (d.entry id).class }) (streams id) (tree_of d streams r rest))
     one below after =
         elim (cases_Bool (is_storage (d.entry id))) [
           | inl ours ↦ rw (same.1, ours, same.2, below, after) refl

@@ -19,7 +19,7 @@ use Rattle.std.specs.declared.alloc.Global.{Global}
 
 -- no entry and no stream
 abbrev pub no_entry : Entry
-no_entry = record { units = []; name_bytes = 0; kind = 0; left = 0; right = 0; child = 0; start = 0; size = 0 }
+no_entry = record { units = []; name_bytes = 0; kind = 0; left = 0; right = 0; child = 0; class = []; start = 0; size = 0 }
 
 abbrev pub no_stream : Stream
 no_stream = record { bytes = []; places = [] }

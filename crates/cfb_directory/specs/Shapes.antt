@@ -23,4 +23,4 @@ abbrev pub tree_at : List Node → List Family → ℕ → Children
 tree_at nodes families id = under (table_of nodes families) deepest id
 
 abbrev pub shape : List Node → List Family → Files
-shape nodes families = record { place = place_in nodes 0; children = tree_at nodes families 0 }
+shape nodes families = record { place = place_in nodes 0; class = (entry_in nodes 0).class; children = tree_at nodes families 0 }

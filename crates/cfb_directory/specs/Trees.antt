@@ -14,7 +14,7 @@ pub record Table : Type 0 where
   pub stream : ℕ → Stream
 
 abbrev pub tag_at : Table → ℕ → Tag
-tag_at T id = record { name = name_of (T.entry id); id = id; place = T.place id }
+tag_at T id = record { name = name_of (T.entry id); id = id; place = T.place id; class = (T.entry id).class }
 
 -- these siblings, where below gives what is below a storage; rest is what stands behind them
 abbrev pub built : Table → (ℕ → Children) → List ℕ → Children → Children

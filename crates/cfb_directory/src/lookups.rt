@@ -11,7 +11,7 @@ ghost use Rattle.cfb_directory.specs.Named.{first_named};
 ghost use Rattle.cfb_directory.specs.Nodes.{entry_in};
 ghost use Rattle.cfb_directory.specs.Shapes.{key_in};
 ghost use Rattle.cfb_directory.specs.Shown.{files};
-ghost use Rattle.cfb_directory.specs.Found.{IsThere, storage_seen, child_seen, children_list};
+ghost use Rattle.cfb_directory.specs.Found.{IsThere, storage_seen, child_seen, children_list, child_stream};
 
 use crate::files::Files;
 use crate::names::name;
@@ -100,6 +100,29 @@ impl<'a> Files<'a> {
             units: name(&self.nodes[entry as usize].entry),
             storage: self.as_storage(entry),
         })
+    }
+
+    /// The child of a storage at a place in sibling order, from 0, where it is a stream.
+    pub fn child_stream(&self, at: StorageId, k: usize) -> Option<&StreamView<'a>>
+        requires { IsThere self.now at }
+        ensures { option_map (λ v. stream_seen v.now) result ≡ child_stream (storage_seen self.now at).children k }
+    {
+        let family = &self.families[at.entry as usize];
+        let entry = *family.children.get(k)?;
+        let node = &self.nodes[entry as usize];
+        if node.entry.kind == STORAGE {
+            None
+        } else {
+            Some(&node.stream)
+        }
+    }
+
+    /// The class of a storage.
+    pub fn class(&self, at: StorageId) -> [u8; 16]
+        requires { IsThere self.now at }
+        ensures { result ≡ (storage_seen self.now at).class }
+    {
+        self.nodes[at.entry as usize].entry.class
     }
 
     /// The file offset of a storage's entry.

@@ -1,9 +1,10 @@
 //! A compound file opened.
 ghost use Rattle.std.specs.Prelude.{◌≡◌, ◌+◌, ◌≤◌, ◌<◌, ◌^◌, length, IfOk, Ok, Err};
-ghost use Rattle.carrier_model.specs.Files.{Opened, open_of, opened_of, steps_of};
+ghost use Rattle.carrier_model.specs.Files.{Opened, open_file, opened_of, steps_of};
 ghost use Rattle.carrier_model.specs.Loads.{load_of};
 ghost use Rattle.carrier_model.specs.Sectors.{sector_count};
-ghost use Rattle.carrier_model.specs.Holds.{Holds};
+ghost use Rattle.carrier_model.specs.Tables.{sector_size};
+ghost use Rattle.carrier_model.specs.Holds.{FileHolds};
 ghost use Rattle.carrier_io.specs.Reads.{Gives, Reads};
 ghost use Rattle.cfb_directory.specs.Shown.{files, mini_limit};
 
@@ -14,15 +15,15 @@ use carrier_io::{Stop, Walk};
 use cfb_sectors::Sectors;
 use std::alloc::Global;
 
-/// Opens a compound file of at most 268,435,456 bytes. The first fault of its header, its tables, its directory and its
+/// Opens a compound file of either version, of at most 268,435,456 bytes. The first fault of its header, its tables, its directory and its
 /// streams, in this order. The walk counts each word of the FAT and the mini FAT that is followed.
 pub fn open_files<'a>(alloc: Global, bytes: &'a [u8], walk: &mut Walk) -> Result<Files<'a>, Stop>
     requires short { length bytes.now ≤ 268435456 }
-    ensures answer { Gives files result (open_of 512 bytes.now) }
-    ensures both { Reads files result (Holds 512 bytes.now) (λ g. open_of 512 bytes.now ≡ Err g) }
-    ensures bounded { walk.new ≤ walk.old + sector_count 512 bytes.now + mini_limit (load_of 512 bytes.now) }
+    ensures answer { Gives files result (open_file bytes.now) }
+    ensures both { Reads files result (FileHolds bytes.now) (λ g. open_file bytes.now ≡ Err g) }
+    ensures bounded { walk.new ≤ walk.old + sector_count (sector_size bytes.now) bytes.now + mini_limit (load_of (sector_size bytes.now) bytes.now) }
     ensures grows { walk.old ≤ walk.new }
-    ensures steps { (o : Opened) → opened_of 512 bytes.now ≡ Ok o → walk.old < 2 ^ 63 → IfOk result (λ _. walk.new ≡ walk.old + steps_of o) }
+    ensures steps { (o : Opened) → opened_of (sector_size bytes.now) bytes.now ≡ Ok o → walk.old < 2 ^ 63 → IfOk result (λ _. walk.new ≡ walk.old + steps_of o) }
 {
     let mut sectors = Sectors::load(alloc, bytes, walk)?;
     let Outline { families, visited } = read_outline(alloc, &sectors)?;

@@ -36,8 +36,25 @@ fn put_entry(file: &mut Vec<u8>, at: u16, kind: u32, left: u32, right: u32, chil
     put(file, at + 76, child);
 }
 
-/// A file of 3,072 bytes: the table in sector 0, the directory in 1 and 2, the mini FAT in 3, the mini stream in 4. The
-/// root has a storage, entry 1, with three empty streams, 2 to 4, and a stream of 32 bytes, entry 5.
+/// The entries of a directory that begins there: the root has a storage, entry 1, with three empty streams, 2 to 4, and a
+/// stream of 32 bytes, entry 5.
+fn put_tree(file: &mut Vec<u8>, at: u16) {
+    let at = at.min(0x8000);
+    put_entry(file, at, 0x0105_0016, FREE, FREE, 1);
+    put_entry(file, at + 128, 0x0101_0028, FREE, 5, 3);
+    put_entry(file, at + 256, 0x0102_002A, FREE, FREE, FREE);
+    put_entry(file, at + 384, 0x0102_002A, 2, 4, FREE);
+    put_entry(file, at + 512, 0x0102_002A, FREE, FREE, FREE);
+    put_entry(file, at + 640, 0x0102_0030, FREE, FREE, FREE);
+    let at = u32::from(at);
+    put_name(file, at + 128, b"__nameid_version1.0\0\0\0\0");
+    put_name(file, at + 256, b"__substg1.0_00020102\0\0\0");
+    put_name(file, at + 384, b"__substg1.0_00030102\0\0\0");
+    put_name(file, at + 512, b"__substg1.0_00040102\0\0\0");
+    put_name(file, at + 640, b"__properties_version1.0");
+}
+
+/// A file of 3,072 bytes: the table in sector 0, the directory in 1 and 2, the mini FAT in 3, the mini stream in 4.
 fn small_file(alloc: Global) -> Result<Vec<u8>, AllocError> {
     let mut file = vec![in alloc; 0; 3072]?;
     for i in 0..128u32 {
@@ -68,21 +85,47 @@ fn small_file(alloc: Global) -> Result<Vec<u8>, AllocError> {
     for (at, value) in words {
         put(&mut file, at, value);
     }
-    put_entry(&mut file, 1024, 0x0105_0016, FREE, FREE, 1);
-    put_entry(&mut file, 1152, 0x0101_0028, FREE, 5, 3);
-    put_entry(&mut file, 1280, 0x0102_002A, FREE, FREE, FREE);
-    put_entry(&mut file, 1408, 0x0102_002A, 2, 4, FREE);
-    put_entry(&mut file, 1536, 0x0102_002A, FREE, FREE, FREE);
-    put_entry(&mut file, 1664, 0x0102_0030, FREE, FREE, FREE);
-    put_name(&mut file, 1152, b"__nameid_version1.0\0\0\0\0");
-    put_name(&mut file, 1280, b"__substg1.0_00020102\0\0\0");
-    put_name(&mut file, 1408, b"__substg1.0_00030102\0\0\0");
-    put_name(&mut file, 1536, b"__substg1.0_00040102\0\0\0");
-    put_name(&mut file, 1664, b"__properties_version1.0");
+    put_tree(&mut file, 1024);
     Ok(file)
 }
 
-/// The fault of the first so many bytes of that file, after two changes of it.
+/// The same tree in a file of version 4, of 20,480 bytes: the table in sector 0, the directory in 1, the mini FAT in 2,
+/// the mini stream in 3.
+fn small_file4(alloc: Global) -> Result<Vec<u8>, AllocError> {
+    let mut file = vec![in alloc; 0; 20_480]?;
+    for i in 0..1024u32 {
+        put(&mut file, 4096 + 4 * i, FREE);
+        put(&mut file, 12_288 + 4 * i, FREE);
+    }
+    let words = [
+        (0, 0xE011_CFD0),
+        (4, 0xE11A_B1A1),
+        (24, 0x0004_003E),
+        (28, 0x000C_FFFE),
+        (32, 6),
+        (40, 1),
+        (44, 1),
+        (48, 1),
+        (56, 4096),
+        (60, 2),
+        (68, END),
+        (4096, 0xFFFF_FFFD),
+        (4100, END),
+        (4104, END),
+        (4108, END),
+        (8308, 3),
+        (8312, 64),
+        (8952, 32),
+        (12_288, END),
+    ];
+    for (at, value) in words {
+        put(&mut file, at, value);
+    }
+    put_tree(&mut file, 8192);
+    Ok(file)
+}
+
+/// The fault of the first so many bytes of the file of version 3, after two changes of it.
 fn refusal(
     alloc: Global,
     first: (u32, u32),
@@ -112,7 +155,8 @@ fn changes(rt: HostRuntime) -> Result<(), Fail> {
         (1728, 0x0105_0030, Reason::BadEntryType, 1730),
         (1564, 0x0033_0030, Reason::DoubleName, 1536),
         (1728, 0x0102_0003, Reason::BadName, 1728),
-        (24, 0x0004_003E, Reason::BadVersion, 26),
+        (24, 0x0005_003E, Reason::BadVersion, 26),
+        (24, 0x0004_003E, Reason::BadHeader, 30),
         (28, 0x000C_FFFE, Reason::BadHeader, 30),
         (44, 0, Reason::BadFatCount, 44),
         (44, 6, Reason::BadFatCount, 44),
@@ -150,6 +194,73 @@ fn pairs_and_cuts(rt: HostRuntime) -> Result<(), Fail> {
         assert_eq!(rt; fault.offset, offset, "{len} bytes");
     }
     assert!(rt; refusal(rt.alloc(), same, same, 2624)?.is_none());
+    Ok(())
+}
+
+/// The fault of the first so many bytes of the file of version 4, after a change of it.
+fn refusal4(alloc: Global, change: (u32, u32), len: usize) -> Result<Option<Fault>, Fail> {
+    let mut file = small_file4(alloc)?;
+    put(&mut file, change.0, change.1);
+    file.truncate(len);
+    let bytes = file.as_slice();
+    if bytes.len() > 20_480 {
+        return Err("too long")?;
+    }
+    match open_files(alloc, bytes, &mut Walk::new()) {
+        Ok(_) => Ok(None),
+        Err(Stop::Fault(fault)) => Ok(Some(fault)),
+        Err(Stop::NoMemory) => Err("memory")?,
+    }
+}
+
+#[test]
+fn versions(rt: HostRuntime) -> Result<(), Fail> {
+    let rows = [
+        ((4100, 1), 20_480, Reason::Cycle, 4100),
+        ((8956, 1), 20_480, Reason::Shared, 8948),
+        ((28, 0x0009_FFFE), 20_480, Reason::BadHeader, 30),
+        ((24, 0x0005_003E), 20_480, Reason::BadVersion, 26),
+        ((32, 6), 4096, Reason::BadFatCount, 44),
+        ((32, 6), 4000, Reason::BadFatCount, 44),
+        ((32, 6), 511, Reason::FileTruncated, 511),
+    ];
+    for (change, len, reason, offset) in rows {
+        let fault = refusal4(rt.alloc(), change, len)?.ok_or("a fault")?;
+        assert_eq!(rt; fault.reason, reason, "{len} bytes");
+        assert_eq!(rt; fault.offset, offset, "{len} bytes");
+    }
+    assert!(rt; refusal4(rt.alloc(), (32, 6), 20_480)?.is_none());
+    let high = (1788, 1);
+    assert!(rt; refusal(rt.alloc(), high, high, 3072)?.is_none());
+    Ok(())
+}
+
+#[test]
+fn classes(rt: HostRuntime) -> Result<(), Fail> {
+    let mut file = small_file4(rt.alloc())?;
+    put(&mut file, 8192 + 80, 0x0002_0D0B);
+    put(&mut file, 8320 + 92, 0x4600_0000);
+    let bytes = file.as_slice();
+    if bytes.len() > 20_480 {
+        return Err("too long")?;
+    }
+    let files = open_files(rt.alloc(), bytes, &mut Walk::new())?;
+    let root = files.root();
+    assert_eq!(rt;
+        files.class(root),
+        [0x0B, 0x0D, 2, 0, 0, 0, 0, 0, 0, 0, 0, 0, 0, 0, 0, 0]
+    );
+    let names = files
+        .storage(root, "__nameid_version1.0")
+        .ok_or("no storage")?;
+    assert_eq!(rt;
+        files.class(names),
+        [0, 0, 0, 0, 0, 0, 0, 0, 0, 0, 0, 0, 0, 0, 0, 0x46]
+    );
+    assert!(rt; files.child_stream(root, 0).is_none());
+    let view = files.child_stream(root, 1).ok_or("no stream")?;
+    assert_eq!(rt; view.len(), 32);
+    assert!(rt; files.child_stream(root, 2).is_none());
     Ok(())
 }
 

@@ -31,7 +31,7 @@ abbrev pub place_of : State → ℕ → ℕ
 place_of s id = entry_place s.size s.loaded.directory id
 
 abbrev pub entry_of : State → ℕ → Entry
-entry_of s id = entry_at s.file (place_of s id)
+entry_of s id = entry_at s.size s.file (place_of s id)
 
 abbrev pub entries : State → ℕ
 entries s = entry_count s.size s.loaded.directory

@@ -29,6 +29,7 @@ entry e = record {
   left = e.left;
   right = e.right;
   child = e.child;
+  class = e.class;
   start = e.start;
   size = e.size;
 }

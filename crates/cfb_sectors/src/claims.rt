@@ -38,7 +38,7 @@ pub fn view_long<'a>(
     ensures grows { walk.old ≤ walk.new }
 {
     let taken = take_long_chain(alloc, bytes, fat, wish, marks, walk)?;
-    Ok(StreamView::new(bytes, taken.starts, fat.size, wish.size))
+    Ok(StreamView::new(bytes, taken.starts, fat.size, wish.size as u32))
 }
 
 /// The stream that an entry tells of, whose chain is in the mini FAT.
@@ -66,5 +66,5 @@ pub fn view_short<'a>(
 {
     let taken = take_short_chain(alloc, from, wish, marks, walk)?;
     let starts = mini_starts(alloc, from.fat.size, &from.stream, &taken.starts)?;
-    Ok(StreamView::new(bytes, starts, 64, wish.size))
+    Ok(StreamView::new(bytes, starts, 64, wish.size as u32))
 }

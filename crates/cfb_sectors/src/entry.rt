@@ -1,8 +1,8 @@
 //! Directory entries.
-ghost use Rattle.std.specs.Prelude.{◌≡◌, ◌+◌, ◌*◌, ◌<◌, ◌≤◌, ℕ, length, map, All, IsTrue};
+ghost use Rattle.std.specs.Prelude.{◌≡◌, ◌+◌, ◌*◌, ◌<◌, ◌≤◌, ◌^◌, ℕ, length, map, take, drop, All, IsTrue};
 ghost use Rattle.std.specs.List.{range_with_len};
 ghost use Rattle.carrier_model.specs.Sectors.{is_size, u16_of, whole_count};
-ghost use Rattle.carrier_model.specs.Entries.{entry_at, entry_count, entry_place};
+ghost use Rattle.carrier_model.specs.Entries.{entry_at, entry_count, entry_place, size_at};
 ghost use Rattle.cfb_sectors.specs.Views.{entry};
 
 use crate::header::{long, short};
@@ -18,9 +18,10 @@ pub struct Entry {
     pub left: u32,
     pub right: u32,
     pub child: u32,
+    pub class: [u8; 16],
     pub start: u32,
     /// In bytes.
-    pub size: u32,
+    pub size: u64,
 }
 
 /// The units of a name's field.
@@ -35,10 +36,35 @@ fn read_units(bytes: &[u8], at: usize) -> [u16; 32]
     units
 }
 
-/// The entry whose first byte is at a place.
-pub fn read_entry(bytes: &[u8], at: usize) -> Entry
+/// The sixteen bytes at a place.
+fn read_class(bytes: &[u8], at: usize) -> [u8; 16]
+    requires { at + 16 ≤ length bytes.now }
+    ensures { result ≡ take 16 (drop at bytes.now) }
+{
+    let mut class = [0; 16];
+    for i in 0..16 {
+        class[i] = bytes[at + i];
+    }
+    class
+}
+
+/// The size of an entry's stream. In version 3, whose sectors have 512 bytes, the high half is zero.
+fn read_size(bytes: &[u8], size: u32, at: usize) -> u64
+    requires inside { at + 128 ≤ length bytes.now }
+    ensures { result ≡ size_at size bytes.now at }
+{
+    let low = u64::from(long(bytes, at + 120));
+    if size == 512 {
+        low
+    } else {
+        low + u64::from(long(bytes, at + 124)) * 0x1_0000_0000
+    }
+}
+
+/// The entry whose first byte is at a place, in a file with sectors of this size.
+pub fn read_entry(bytes: &[u8], size: u32, at: usize) -> Entry
     requires { at + 128 ≤ length bytes.now }
-    ensures { entry result ≡ entry_at bytes.now at }
+    ensures { entry result ≡ entry_at size bytes.now at }
 {
     Entry {
         kind: bytes[at + 66],
@@ -47,8 +73,9 @@ pub fn read_entry(bytes: &[u8], at: usize) -> Entry
         left: long(bytes, at + 68),
         right: long(bytes, at + 72),
         child: long(bytes, at + 76),
+        class: read_class(bytes, at + 80),
         start: long(bytes, at + 116),
-        size: long(bytes, at + 120),
+        size: read_size(bytes, size, at),
     }
 }
 

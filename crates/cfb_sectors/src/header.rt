@@ -1,19 +1,20 @@
 //! The header.
-ghost use Rattle.std.specs.Prelude.{◌≡◌, ℕ, ◌+◌, ◌≤◌, length, IfOk, OnOk};
-ghost use Rattle.carrier_model.specs.Sectors.{sector_count, u16_of, u32_of};
-ghost use Rattle.carrier_model.specs.Tables.{header_of};
+ghost use Rattle.std.specs.Prelude.{◌≡◌, ℕ, ◌+◌, ◌≤◌, length, IfOk, IsTrue};
+ghost use Rattle.carrier_model.specs.Sectors.{is_size, sector_count, u16_of, u32_of};
+ghost use Rattle.carrier_model.specs.Tables.{major, sector_shift, sector_size, header_of};
 ghost use Rattle.carrier_io.specs.Reads.{Gives};
 ghost use Rattle.carrier_io.specs.declared.reasons.Stop.TheVariants as stops;
 ghost use Rattle.cfb_sectors.specs.Views.{head};
 
 use carrier_io::{Fault, Reason, Stop};
 
-/// How many bytes a sector has in version 3.
-pub const SECTOR: usize = 512;
+/// How many bytes the header has, and a sector of version 3.
+const HEADER: u32 = 512;
 
-/// What the header says.
+/// What the header says, and how many bytes a sector has.
 #[derive(Clone, Copy)]
 pub struct Header {
+    pub size: u32,
     pub fat_count: u32,
     pub directory: u32,
     pub mini_fat: u32,
@@ -44,27 +45,62 @@ pub fn long(bytes: &[u8], at: usize) -> u32
     carrier_io::u32_at(bytes, at)
 }
 
+/// How many bytes a sector has, by the file's major version: 4,096 in version 4, and else 512.
+fn sector_size(bytes: &[u8]) -> u32
+    requires { 28 ≤ length bytes.now }
+    ensures size { result ≡ sector_size bytes.now }
+    ensures known { IsTrue (is_size result) }
+{
+    if short(bytes, 26) == 4 { 4096 } else { HEADER }
+}
+
+/// The major version that has sectors of this size.
+fn major(size: u32) -> u16
+    ensures { result ≡ major size }
+{
+    if size == HEADER { 3 } else { 4 }
+}
+
+/// The power of two that this size is.
+fn sector_shift(size: u32) -> u16
+    ensures { result ≡ sector_shift size }
+{
+    if size == HEADER { 9 } else { 12 }
+}
+
+/// How many sectors the file has; the last may be cut.
+pub fn sector_count(bytes: &[u8], size: u32) -> usize
+    requires size { IsTrue (is_size size) }
+    requires some { 1 ≤ length bytes.now }
+    ensures { result ≡ sector_count size bytes.now }
+{
+    (bytes.len() - 1) / size as usize
+}
+
 /// The header, or its first fault at the field; FileTruncated at the input's length.
 #[tactic(auto, unfolding(carrier_model::specs::Tables::header_of))]
 pub fn read_header(bytes: &[u8]) -> Result<Header, Stop>
     requires { length bytes.now ≤ 268435456 }
-    ensures long { OnOk result (512 ≤ length bytes.now) }
-    ensures count { IfOk result (λ h. h.fat_count ≤ sector_count 512 bytes.now) }
-    ensures answer { Gives head result (header_of 512 bytes.now) }
+    ensures size { IfOk result (λ h. h.size ≡ sector_size bytes.now) }
+    ensures known { IfOk result (λ h. IsTrue (is_size h.size)) }
+    ensures long { IfOk result (λ h. h.size ≤ length bytes.now) }
+    ensures count { IfOk result (λ h. h.fat_count ≤ sector_count h.size bytes.now) }
+    ensures answer { Gives head result (header_of (sector_size bytes.now) bytes.now) }
 {
-    if bytes.len() < SECTOR {
+    if bytes.len() < HEADER as usize {
         return Err(fault(Reason::FileTruncated, bytes.len() as u64));
     }
     if long(bytes, 0) != 0xE011_CFD0 || long(bytes, 4) != 0xE11A_B1A1 {
         return Err(fault(Reason::BadFileSignature, 0));
     }
-    if short(bytes, 26) != 3 {
+    let size = sector_size(bytes);
+    if short(bytes, 26) != major(size) {
         return Err(fault(Reason::BadVersion, 26));
     }
     if short(bytes, 28) != 0xFFFE {
         return Err(fault(Reason::BadHeader, 28));
     }
-    if short(bytes, 30) != 9 {
+    if short(bytes, 30) != sector_shift(size) {
         return Err(fault(Reason::BadHeader, 30));
     }
     if short(bytes, 32) != 6 {
@@ -74,11 +110,11 @@ pub fn read_header(bytes: &[u8]) -> Result<Header, Stop>
         return Err(fault(Reason::BadHeader, 56));
     }
     let fat_count = long(bytes, 44);
-    let sectors = (bytes.len() - 1) / SECTOR;
-    if fat_count == 0 || fat_count as usize > sectors {
+    if fat_count == 0 || fat_count as usize > sector_count(bytes, size) {
         return Err(fault(Reason::BadFatCount, 44));
     }
     Ok(Header {
+        size,
         fat_count,
         directory: long(bytes, 48),
         mini_fat: long(bytes, 60),

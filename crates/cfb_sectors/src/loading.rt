@@ -4,6 +4,7 @@ ghost use Rattle.carrier_model.specs.Chains.{chain_of};
 ghost use Rattle.carrier_model.specs.Loads.{tables_of, taken_first};
 ghost use Rattle.carrier_model.specs.Marks.{Marks, unmarked};
 ghost use Rattle.carrier_model.specs.Sectors.{sector_count, whole_count};
+ghost use Rattle.carrier_model.specs.Tables.{sector_size};
 ghost use Rattle.carrier_io.specs.Reads.{Gives};
 ghost use Rattle.carrier_io.specs.Steps.{stepped};
 ghost use Rattle.carrier_io.specs.declared.reasons.Stop.TheVariants as stops;
@@ -11,7 +12,7 @@ ghost use Rattle.cfb_sectors.specs.Views.{tables};
 
 use crate::chains::{Limits, Start, take_chain};
 use crate::fat::Fat;
-use crate::header::{Header, SECTOR, read_header};
+use crate::header::{Header, read_header, sector_count};
 use crate::lists::{difat_count, take_difat, take_fat_sectors};
 use crate::marks::SectorMarks;
 use crate::words::read_words;
@@ -42,27 +43,28 @@ pub fn no_marks(alloc: Global, count: usize) -> Result<SectorMarks, Stop>
 #[tactic(auto, unfolding(carrier_model::specs::Loads::tables_of))]
 pub fn load_tables(alloc: Global, bytes: &[u8], walk: &mut Walk) -> Result<Tables, Stop>
     requires short { length bytes.now ≤ 268435456 }
-    ensures answer { Gives tables result (tables_of 512 bytes.now) }
-    ensures size { IfOk result (λ t. t.fat.size ≡ 512) }
-    ensures long { IfOk result (λ t. 512 ≤ length bytes.now) }
+    ensures answer { Gives tables result (tables_of (sector_size bytes.now) bytes.now) }
+    ensures size { IfOk result (λ t. t.fat.size ≡ sector_size bytes.now) }
+    ensures long { IfOk result (λ t. sector_size bytes.now ≤ length bytes.now) }
     ensures marks { IfOk result (λ t. Marks t.marks (taken_first (tables t))) }
-    ensures count { IfOk result (λ t. length t.marks ≡ sector_count 512 bytes.now) }
-    ensures whole { IfOk result (λ t. All (λ n. n < whole_count 512 bytes.now) t.directory.items) }
-    ensures few { IfOk result (λ t. vec_len t.directory ≤ sector_count 512 bytes.now) }
+    ensures count { IfOk result (λ t. length t.marks ≡ sector_count (sector_size bytes.now) bytes.now) }
+    ensures whole { IfOk result (λ t. All (λ n. n < whole_count (sector_size bytes.now) bytes.now) t.directory.items) }
+    ensures few { IfOk result (λ t. vec_len t.directory ≤ sector_count (sector_size bytes.now) bytes.now) }
     ensures some { IfOk result (λ t. 1 ≤ vec_len t.directory) }
     ensures steps { IfOk result (λ t. walk.new ≡ stepped walk.old (vec_len t.directory)) }
-    ensures left { IfOk result (λ t. walk.new + unmarked t.marks ≤ walk.old + sector_count 512 bytes.now) }
-    ensures bounded { walk.new ≤ walk.old + sector_count 512 bytes.now }
+    ensures left { IfOk result (λ t. walk.new + unmarked t.marks ≤ walk.old + sector_count (sector_size bytes.now) bytes.now) }
+    ensures bounded { walk.new ≤ walk.old + sector_count (sector_size bytes.now) bytes.now }
     ensures grows { walk.old ≤ walk.new }
 {
     let header = read_header(bytes)?;
-    let mut marks = no_marks(alloc, (bytes.len() - 1) / SECTOR)?;
-    let count = difat_count(512, header.fat_count);
-    let difat = take_difat(alloc, bytes, SECTOR, count, &mut marks)?;
-    let sectors = take_fat_sectors(alloc, bytes, SECTOR, header.fat_count, &difat, &mut marks)?;
-    let words = read_words(alloc, bytes, SECTOR, &sectors)?;
+    let size = header.size as usize;
+    let mut marks = no_marks(alloc, sector_count(bytes, header.size))?;
+    let count = difat_count(header.size, header.fat_count);
+    let difat = take_difat(alloc, bytes, size, count, &mut marks)?;
+    let sectors = take_fat_sectors(alloc, bytes, size, header.fat_count, &difat, &mut marks)?;
+    let words = read_words(alloc, bytes, size, &sectors)?;
     let fat = Fat {
-        size: 512,
+        size: header.size,
         words,
         sectors,
     };
@@ -72,7 +74,7 @@ pub fn load_tables(alloc: Global, bytes: &[u8], walk: &mut Walk) -> Result<Table
     };
     let limits = Limits {
         bound: marks.len().min(fat.words.len()) as u32,
-        whole: ((bytes.len() - SECTOR) / SECTOR) as u32,
+        whole: ((bytes.len() - size) / size) as u32,
         need: 1,
     };
     let directory = take_chain(alloc, &fat, start, limits, &mut marks, walk)?;

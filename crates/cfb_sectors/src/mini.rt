@@ -96,6 +96,6 @@ pub fn load_mini(
     Ok(Mini {
         fat: mini_fat,
         stream: stream.chain,
-        size: wish.size,
+        size: wish.size as u32,
     })
 }

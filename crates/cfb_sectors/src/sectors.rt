@@ -3,6 +3,7 @@ ghost use Rattle.std.specs.Prelude.{◌≡◌, ℕ, ◌+◌, ◌≤◌, ◌<◌,
 ghost use Rattle.carrier_model.specs.Loads.{load_of, taken_by, mini_bound, long_part, short_part};
 ghost use Rattle.carrier_model.specs.Marks.{Marks, unmarked};
 ghost use Rattle.carrier_model.specs.Sectors.{sector_count};
+ghost use Rattle.carrier_model.specs.Tables.{sector_size};
 ghost use Rattle.carrier_io.specs.Reads.{Gives};
 ghost use Rattle.carrier_io.specs.Steps.{stepped};
 ghost use Rattle.cfb_sectors.specs.States.{State, IsKept, entries, entry_of, place_of, chain_claimed, stream_claimed};
@@ -12,7 +13,7 @@ ghost use Rattle.cfb_sectors.specs.Views.{table, mini_seen, entry};
 use crate::claims::{view_long, view_short};
 use crate::entry::{Entry, entry_place, read_entry};
 use crate::fat::Fat;
-use crate::header::{SECTOR, fault};
+use crate::header::fault;
 use crate::loading::{Tables, load_tables, no_marks};
 use crate::marks::SectorMarks;
 use crate::mini::load_mini;
@@ -23,7 +24,7 @@ use std::alloc::Global;
 use std::marker::Model;
 
 /// A stream of so many bytes has a chain in the table, a shorter one in the mini FAT.
-const LONG: u32 = 4096;
+const LONG: u64 = 4096;
 
 /// A compound file whose header, tables and directory chain are read, with marks of the sectors that are taken.
 #[derive(Drop)]
@@ -51,17 +52,17 @@ impl<'a> Sectors<'a> {
     #[tactic(auto, unfolding(carrier_model::specs::Loads::load_of))]
     pub fn load(alloc: Global, bytes: &'a [u8], walk: &mut Walk) -> Result<Sectors<'a>, Stop>
         requires short { length bytes.now ≤ 268435456 }
-        ensures answer { Gives (λ s. s.loaded) result (load_of 512 bytes.now) }
-        ensures file { IfOk result (λ s. (s.file ≡ bytes.now) × (s.size ≡ 512)) }
+        ensures answer { Gives (λ s. s.loaded) result (load_of (sector_size bytes.now) bytes.now) }
+        ensures file { IfOk result (λ s. (s.file ≡ bytes.now) × (s.size ≡ sector_size bytes.now)) }
         ensures some { IfOk result (λ s. 1 ≤ length s.loaded.directory) }
         ensures root { IfOk result (λ s. (entry_of s 0).kind ≡ 5) }
         ensures few { IfOk result (λ s. mini_bound s.loaded.mini ≤ 4194304) }
         ensures marks { IfOk result (λ s. Marks s.marks (taken_by s.loaded)) }
         ensures mini_marks { IfOk result (λ s. Marks s.mini_marks []) }
         ensures steps { IfOk result (λ s. walk.new ≡ stepped walk.old (length s.loaded.directory + length s.loaded.mini.table.sectors + length s.loaded.mini.stream)) }
-        ensures left { IfOk result (λ s. walk.new + unmarked s.marks ≤ walk.old + sector_count 512 bytes.now) }
+        ensures left { IfOk result (λ s. walk.new + unmarked s.marks ≤ walk.old + sector_count (sector_size bytes.now) bytes.now) }
         ensures left_mini { IfOk result (λ s. unmarked s.mini_marks ≡ mini_bound s.loaded.mini) }
-        ensures bounded { walk.new ≤ walk.old + sector_count 512 bytes.now }
+        ensures bounded { walk.new ≤ walk.old + sector_count (sector_size bytes.now) bytes.now }
         ensures grows { walk.old ≤ walk.new }
     {
         let Tables {
@@ -71,8 +72,8 @@ impl<'a> Sectors<'a> {
             directory,
             mut marks,
         } = load_tables(alloc, bytes, walk)?;
-        let place = entry_place(bytes, 512, &directory, 0);
-        let root = read_entry(bytes, place);
+        let place = entry_place(bytes, fat.size, &directory, 0);
+        let root = read_entry(bytes, fat.size, place);
         if root.kind != 5 {
             return Err(fault(Reason::BadEntryType, place as u64 + 66));
         }
@@ -109,6 +110,7 @@ impl<'a> Sectors<'a> {
     {
         read_entry(
             self.bytes,
+            self.fat.size,
             entry_place(self.bytes, self.fat.size, &self.directory, id),
         )
     }
@@ -152,7 +154,7 @@ impl<'a> Sectors<'a> {
         ensures grows { walk.old ≤ walk.new }
     {
         let place = entry_place(self.bytes, self.fat.size, &self.directory, id);
-        let entry = read_entry(self.bytes, place);
+        let entry = read_entry(self.bytes, self.fat.size, place);
         let wish = Wish {
             start: entry.start,
             size: entry.size,

@@ -19,7 +19,7 @@ use std::alloc::{AllocError, Global};
 #[derive(Clone, Copy)]
 pub struct Wish {
     pub start: u32,
-    pub size: u32,
+    pub size: u64,
     pub entry: u64,
 }
 
@@ -139,7 +139,7 @@ pub fn take_long_chain(
     let limits = Limits {
         bound,
         whole: bound,
-        need: wish.size.div_ceil(fat.size) as usize,
+        need: wish.size.div_ceil(u64::from(fat.size)) as usize,
     };
     let chain = take_chain(alloc, fat, start, limits, marks, walk)?;
     let starts = sector_starts(alloc, fat.size, &chain)?;
@@ -158,6 +158,7 @@ pub fn take_short_chain(
     marks: &mut SectorMarks,
     walk: &mut Walk,
 ) -> Result<Chained, Stop>
+    requires small { wish.size < 4096 }
     requires place { wish.entry < 2 ^ 32 }
     requires marks { length marks.old ≡ mini_bound (mini_seen from.now) }
     ensures answer { (earlier : List ℕ) → Marks marks.old earlier → Gives (λ c. c.chain.items) result (short_chain_of from.now.fat.size (mini_seen from.now) wish.start wish.size wish.entry earlier) }

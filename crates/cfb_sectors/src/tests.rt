@@ -107,7 +107,8 @@ fn faults(rt: HostRuntime) -> Result<(), Fail> {
         (1780, 1, Reason::SectorOutOfRange, 1780),
         (2048, 0, Reason::Cycle, 2048),
         (1784, 65, Reason::ShortChain, 2048),
-        (24, 0x0004_003E, Reason::BadVersion, 26),
+        (24, 0x0005_003E, Reason::BadVersion, 26),
+        (24, 0x0004_003E, Reason::BadHeader, 30),
         (28, 0x000C_FFFE, Reason::BadHeader, 30),
         (1088, 0x0101_0016, Reason::BadEntryType, 1090),
     ];

@@ -6,7 +6,7 @@ ghost use Rattle.carrier_model.specs.Tree as plain;
 ghost use Rattle.msg_tree.specs.Limiting.{limit_of};
 ghost use Rattle.msg_tree.specs.Meaning.{tree_of, attached_of};
 
-use crate::messages::{Attachment, Message};
+use crate::messages::{Attachment, Body, Message};
 use carrier_io::Blob;
 
 /// The greatest number of recipients of a message in a .msg file.
@@ -49,9 +49,10 @@ pub fn first_passed<B: Blob>(message: &Message<B>) -> Option<Limit>
 fn passed_at<B: Blob>(attachment: &Attachment<B>) -> Option<Limit>
     ensures { option_map limit_of result ≡ first_limit (flat_map passed_by (plain.messages_at (attached_of B.bytes attachment.now))) }
 {
-    match &attachment.embedded {
-        Some(inner) => first_passed(inner),
-        None => None,
+    match &attachment.body {
+        Body::Message(inner) => first_passed(inner),
+        Body::Plain => None,
+        Body::Store(_) => None,
     }
 }
 

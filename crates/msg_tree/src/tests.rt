@@ -3,8 +3,8 @@ ghost use Rattle.carrier_model.specs.Keys.{IsName};
 ghost use Rattle.prop_names.specs.Meaning.{name_of};
 
 use crate::{
-    Accepted, Attachment, Attachments, Counts, Limit, Message, Recipients, Tree, copy_owned,
-    counts, depth, fits_msg, fits_tnef, names, same,
+    Accepted, Attachment, Attachments, Body, Counts, Limit, Member, MemberEnd, Message, Recipients,
+    Store, Tree, copy_owned, counts, depth, fits_msg, fits_tnef, names, same,
 };
 use carrier_io::{Blob, NoMemory, PassedList, Units};
 use prop_names::{Guid, Key, Name};
@@ -99,11 +99,11 @@ fn sample<B: Blob>(alloc: Global, first: B, second: B, third: B) -> Result<Messa
     let mut top = empty(alloc);
     top.attachments.push(Attachment {
         props,
-        embedded: Some(boxed(alloc, inner)?),
+        body: Body::Message(boxed(alloc, inner)?),
     })?;
     top.attachments.push(Attachment {
         props: Props::new(alloc),
-        embedded: None,
+        body: Body::Plain,
     })?;
     let mut units = Units::new(alloc);
     units.push(0x61)?;
@@ -186,7 +186,7 @@ fn chain(alloc: Global, levels: u64) -> Result<Message<Vec<u8>>, NoMemory> {
         let mut outer = empty(alloc);
         outer.attachments.push(Attachment {
             props: Props::new(alloc),
-            embedded: Some(boxed(alloc, message)?),
+            body: Body::Message(boxed(alloc, message)?),
         })?;
         message = outer;
     }
@@ -220,5 +220,66 @@ fn limits_of_a_message(rt: HostRuntime) -> Result<(), Fail> {
     let names = names(alloc, &tree).ok().ok_or("no names")?;
     assert_eq!(rt; fits_msg(&tree, &names), Some(Limit::Recipients(2049)));
     assert_eq!(rt; fits_tnef(&tree, &names), None);
+    Ok(())
+}
+
+fn class_of(member: &Member<Vec<u8>>) -> [u8; 16] {
+    match member {
+        Member::Stream(_) => [2; 16],
+        Member::Storage(inner) => inner.class(),
+    }
+}
+
+#[test]
+fn members_by_their_names(rt: HostRuntime) -> Result<(), Fail> {
+    let alloc = rt.alloc();
+    let mut store: Store<Vec<u8>> = Store::new(alloc, [7; 16]);
+    let inner = Member::Storage(Store::new(alloc, [8; 16]));
+    store.insert(&[0x61], inner).ok().ok_or("a member")?;
+    let double = Member::Storage(Store::new(alloc, [9; 16]));
+    let back = match store.insert(&[0x41], double) {
+        Ok(()) => [0; 16],
+        Err(MemberEnd::NoMemory) => [1; 16],
+        Err(MemberEnd::Duplicate(member)) => class_of(&member),
+    };
+    assert_eq!(rt; back, [9; 16]);
+    assert_eq!(rt; store.len(), 1);
+    assert_eq!(rt; store.class(), [7; 16]);
+    let mut message = empty(alloc);
+    message
+        .attachments
+        .push(Attachment {
+            props: Props::new(alloc),
+            body: Body::Store(store),
+        })
+        .ok()
+        .ok_or("an attachment")?;
+    let tree = Tree::new(message).ok().ok_or("a tree")?;
+    let copy = copy_owned(alloc, &tree).ok().ok_or("a copy")?;
+    assert!(rt; same(&tree, &copy));
+    Ok(())
+}
+
+// The name of the stream that makes a storage a message, in upper case.
+const LIST: [u16; 23] = [
+    95, 95, 80, 82, 79, 80, 69, 82, 84, 73, 69, 83, 95, 86, 69, 82, 83, 73, 79, 78, 49, 46, 48,
+];
+
+#[test]
+fn a_store_that_is_a_message(rt: HostRuntime) -> Result<(), Fail> {
+    let alloc = rt.alloc();
+    let mut store: Store<Vec<u8>> = Store::new(alloc, [0; 16]);
+    let list = Member::Stream(Vec::new(alloc));
+    store.insert(&LIST, list).ok().ok_or("a member")?;
+    let mut message = empty(alloc);
+    message
+        .attachments
+        .push(Attachment {
+            props: Props::new(alloc),
+            body: Body::Store(store),
+        })
+        .ok()
+        .ok_or("an attachment")?;
+    assert!(rt; Tree::new(message).is_err());
     Ok(())
 }

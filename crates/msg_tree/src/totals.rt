@@ -5,7 +5,7 @@ ghost use Rattle.carrier_model.specs.Tree as plain;
 ghost use Rattle.msg_tree.specs.Counting.{IsCountOf};
 ghost use Rattle.msg_tree.specs.Meaning.{tree_of, list_of, attached_of};
 
-use crate::messages::{Attachment, Attachments, Message};
+use crate::messages::{Attachment, Attachments, Body, Message};
 use crate::recipient_list::Recipients;
 use carrier_io::Blob;
 
@@ -25,6 +25,19 @@ pub struct Counts {
 }
 
 impl Counts {
+    // No message.
+    fn none() -> Counts
+        ensures { IsCountOf result [] }
+    {
+        Counts {
+            messages: 0,
+            recipients: 0,
+            attachments: 0,
+            properties: 0,
+            depth: 0,
+        }
+    }
+
     // The numbers of both, without a depth.
     fn plus(self, other: Counts) -> Counts
         ensures messages { result.messages ≡ capped (self.messages + other.messages) }
@@ -59,15 +72,10 @@ pub fn count_message<B: Blob>(message: &Message<B>) -> Counts
 fn count_attachment<B: Blob>(attachment: &Attachment<B>) -> Counts
     ensures { IsCountOf result (plain.messages_at (attached_of B.bytes attachment.now)) }
 {
-    match &attachment.embedded {
-        Some(inner) => count_message(inner),
-        None => Counts {
-            messages: 0,
-            recipients: 0,
-            attachments: 0,
-            properties: 0,
-            depth: 0,
-        },
+    match &attachment.body {
+        Body::Message(inner) => count_message(inner),
+        Body::Plain => Counts::none(),
+        Body::Store(_) => Counts::none(),
     }
 }
 

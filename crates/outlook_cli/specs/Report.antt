@@ -41,7 +41,7 @@ limit_line limit = (codes "unfit " ++ (limit_name limit ++ codes " ")) ++ (decim
 abbrev pub line_of : Status → List ℕ
 line_of Done = []
 line_of (Refused g) = refusal_line g
-line_of Usage = codes "usage: show, check, to-msg, to-tnef, wrap, unwrap, or sample N" ++ 10 ∷ []
+line_of Usage = codes "usage: show, check, to-msg, to-msg4, to-tnef, wrap, unwrap, or sample N" ++ 10 ∷ []
 line_of (Unfit limit) = limit_line limit
 line_of ReadFault = codes "read fault" ++ 10 ∷ []
 line_of WriteFault = codes "write fault" ++ 10 ∷ []

@@ -71,7 +71,7 @@ pub fn write_report<W: Sink>(sink: &mut W, status: Status) -> Result<(), Failed>
         Status::Refused(fault) => write_refusal(sink, fault),
         Status::Usage => write_pieces(
             sink,
-            b"usage: show, check, to-msg, to-tnef, wrap, unwrap, or sample N\n",
+            b"usage: show, check, to-msg, to-msg4, to-tnef, wrap, unwrap, or sample N\n",
         ),
         Status::Unfit(limit) => write_limit(sink, limit),
         Status::ReadFault => write_pieces(sink, b"read fault\n"),

@@ -112,7 +112,7 @@ fn other_words_are_usage(rt: HostRuntime) -> Result<(), Fail> {
         assert_eq!(rt; got.output.len(), 0);
         assert_eq!(rt;
             got.report.as_slice(),
-            &b"usage: show, check, to-msg, to-tnef, wrap, unwrap, or sample N\n"[..]
+            &b"usage: show, check, to-msg, to-msg4, to-tnef, wrap, unwrap, or sample N\n"[..]
         );
     }
     Ok(())

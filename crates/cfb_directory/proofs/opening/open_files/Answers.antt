@@ -2,6 +2,9 @@ use Rattle.std.proofs.Common.{◌≡◌, ◌+◌, ◌≤◌, length, [], sym, �
 use Rattle.std.proofs.lemmas.Result.{err_from_is_err_and}
 use Rattle.carrier_model.specs.Loads.{taken_by, mini_bound}
 use Rattle.carrier_model.specs.Sectors.{sector_count}
+use Rattle.carrier_model.specs.Tables.{sector_size}
+use Rattle.carrier_model.proofs.EntryLaws.{few_entries}
+use Rattle.carrier_model.proofs.HoldsLaws.{size_known}
 use Rattle.cfb_directory.specs.Shown.{files}
 use Rattle.cfb_directory.specs.Walks.{directory_of}
 use Rattle.cfb_directory.proofs.BothSides.{both_sides, found_sides}
@@ -11,7 +14,7 @@ use Rattle.cfb_directory.proofs.opening.open_files.Goals as goal
 pub returns-in_err-sectors-clause-answer : goal.returns-in_err-sectors-clause-answer
 returns-in_err-sectors-clause-answer c =
     let p = err_from_is_err_and c.from_residual.result c.from_residual.ensures.1 in
-    rw (p.1, p.2) (load_stops 512 c.args.bytes.now c.in_err-sectors.field-0.0 c.in_err-sectors.ensures.answer)
+    rw (p.1, p.2) (load_stops (sector_size c.args.bytes.now) c.args.bytes.now c.in_err-sectors.field-0.0 c.in_err-sectors.ensures.answer)
 
 pub returns-in_err-families-clause-answer : goal.returns-in_err-families-clause-answer
 returns-in_err-families-clause-answer c =
@@ -70,9 +73,9 @@ returns-clause-steps c =
     let claimed = c.in_ok-nodes.ensures.answer (taken_by s.loaded) [] c.in_ok-sectors.ensures.marks c.in_ok-sectors.ensures.mini_marks in
     λ p is small.
     let same = opened_once p _ (sym is ∙ opened_same s c.args.bytes.now _ c.in_ok-sectors.ensures.file (open_done s outline o.0 claimed.0 c.in_ok-nodes.nodes.items load o.1 c.in_ok-sectors.ensures.root claimed.1)) in
-    let few : sector_count 512 c.args.bytes.now ≤ 524288 = omega arith in
-    let within : c.claim_streams.new.walk ≤ c.args.walk.now + sector_count 512 c.args.bytes.now + mini_bound s.loaded.mini = omega (arith, c.in_ok-sectors.ensures.left, c.in_ok-sectors.ensures.left_mini, c.claim_streams.ensures.bounded) in
-    rw same (exact_steps c.args.walk.now c.load.new.walk c.claim_streams.new.walk _ _ (sector_count 512 c.args.bytes.now) (mini_bound s.loaded.mini) c.in_ok-sectors.ensures.steps claimed.3 within few c.in_ok-sectors.ensures.few small)
+    let few : sector_count (sector_size c.args.bytes.now) c.args.bytes.now ≤ 524288 = (few_entries (sector_size c.args.bytes.now) (sector_count (sector_size c.args.bytes.now) c.args.bytes.now) (length c.args.bytes.now) (size_known c.args.bytes.now) (omega arith) c.requires.short).0 in
+    let within : c.claim_streams.new.walk ≤ c.args.walk.now + sector_count (sector_size c.args.bytes.now) c.args.bytes.now + mini_bound s.loaded.mini = omega (arith, c.in_ok-sectors.ensures.left, c.in_ok-sectors.ensures.left_mini, c.claim_streams.ensures.bounded) in
+    rw same (exact_steps c.args.walk.now c.load.new.walk c.claim_streams.new.walk _ _ (sector_count (sector_size c.args.bytes.now) c.args.bytes.now) (mini_bound s.loaded.mini) c.in_ok-sectors.ensures.steps claimed.3 within few c.in_ok-sectors.ensures.few small)
 
 pub returns-in_err-sectors-clause-both : goal.returns-in_err-sectors-clause-both
 returns-in_err-sectors-clause-both c = both_sides files c.from_residual.result c.args.bytes.now c.requires.short (returns-in_err-sectors-clause-answer c)

@@ -14,7 +14,7 @@ returns-then-entry-ge-LONG-clause-answer c =
     let s : State = record { file = c.self.inside.bytes.now; size = c.self.inside.fat.size; loaded = record { difat = c.self.inside.difat.items; table = table c.self.inside.fat; directory = c.self.inside.directory.items; mini = mini_seen c.self.inside.mini }; marks = c.self.inside.marks; mini_marks = c.self.inside.mini_marks } in
     let e : Entry = entry c.read_entry-entry.result in
     let eo : c.entry_place-place.result ≡ place_of s c.args.id = rw c.deref.ensures.value at c.entry_place-place.ensures.place in
-    let ee : e ≡ entry_of s c.args.id = c.read_entry-entry.ensures ∙ ap (λ o. entry_at c.self.inside.bytes.now o) eo in
+    let ee : e ≡ entry_of s c.args.id = c.read_entry-entry.ensures ∙ ap (λ o. entry_at c.self.inside.fat.size c.self.inside.bytes.now o) eo in
     let big : 4096 ≤ e.size = c.if-entry-ge-LONG.true in
     rw (← c.self.view_is) (λ long short h k. subst (λ r. Gives stream c.view_long.result r) (long_streamed s c.args.id e c.entry_place-place.result long short ee eo big) (c.view_long.ensures.answer long h))
 
@@ -23,7 +23,7 @@ returns-then-entry-ge-LONG-clause-marked c =
     let s : State = record { file = c.self.inside.bytes.now; size = c.self.inside.fat.size; loaded = record { difat = c.self.inside.difat.items; table = table c.self.inside.fat; directory = c.self.inside.directory.items; mini = mini_seen c.self.inside.mini }; marks = c.self.inside.marks; mini_marks = c.self.inside.mini_marks } in
     let e : Entry = entry c.read_entry-entry.result in
     let eo : c.entry_place-place.result ≡ place_of s c.args.id = rw c.deref.ensures.value at c.entry_place-place.ensures.place in
-    let ee : e ≡ entry_of s c.args.id = c.read_entry-entry.ensures ∙ ap (λ o. entry_at c.self.inside.bytes.now o) eo in
+    let ee : e ≡ entry_of s c.args.id = c.read_entry-entry.ensures ∙ ap (λ o. entry_at c.self.inside.fat.size c.self.inside.bytes.now o) eo in
     let big : 4096 ≤ e.size = c.if-entry-ge-LONG.true in
     rw (← c.self.view_is) (λ long short chain h k is. more_known c.view_long.result _ _ (λ _ m. long_taken s c.args.id e chain long short _ _ ee big m k) (c.view_long.ensures.marked long chain h (sym (long_claimed s c.args.id e c.entry_place-place.result long short ee eo big) ∙ is)))
 
@@ -32,7 +32,7 @@ returns-then-entry-ge-LONG-clause-steps c =
     let s : State = record { file = c.self.inside.bytes.now; size = c.self.inside.fat.size; loaded = record { difat = c.self.inside.difat.items; table = table c.self.inside.fat; directory = c.self.inside.directory.items; mini = mini_seen c.self.inside.mini }; marks = c.self.inside.marks; mini_marks = c.self.inside.mini_marks } in
     let e : Entry = entry c.read_entry-entry.result in
     let eo : c.entry_place-place.result ≡ place_of s c.args.id = rw c.deref.ensures.value at c.entry_place-place.ensures.place in
-    let ee : e ≡ entry_of s c.args.id = c.read_entry-entry.ensures ∙ ap (λ o. entry_at c.self.inside.bytes.now o) eo in
+    let ee : e ≡ entry_of s c.args.id = c.read_entry-entry.ensures ∙ ap (λ o. entry_at c.self.inside.fat.size c.self.inside.bytes.now o) eo in
     let big : 4096 ≤ e.size = c.if-entry-ge-LONG.true in
     rw (← c.self.view_is) (λ long short chain h k is. c.view_long.ensures.steps long chain h (sym (long_claimed s c.args.id e c.entry_place-place.result long short ee eo big) ∙ is))
 
@@ -41,7 +41,7 @@ returns-else-entry-ge-LONG-clause-answer c =
     let s : State = record { file = c.self.inside.bytes.now; size = c.self.inside.fat.size; loaded = record { difat = c.self.inside.difat.items; table = table c.self.inside.fat; directory = c.self.inside.directory.items; mini = mini_seen c.self.inside.mini }; marks = c.self.inside.marks; mini_marks = c.self.inside.mini_marks } in
     let e : Entry = entry c.read_entry-entry.result in
     let eo : c.entry_place-place.result ≡ place_of s c.args.id = rw c.deref.ensures.value at c.entry_place-place.ensures.place in
-    let ee : e ≡ entry_of s c.args.id = c.read_entry-entry.ensures ∙ ap (λ o. entry_at c.self.inside.bytes.now o) eo in
+    let ee : e ≡ entry_of s c.args.id = c.read_entry-entry.ensures ∙ ap (λ o. entry_at c.self.inside.fat.size c.self.inside.bytes.now o) eo in
     let some : (e.size ≡ 0 → ⊥) = c.if-entry-eq0.false in
     let little : e.size < 4096 = c.if-entry-ge-LONG.false in
     rw (← c.self.view_is) (λ long short h k. subst (λ r. Gives stream c.view_short.result r) (short_streamed s c.args.id e c.entry_place-place.result long short ee eo some little) (rw c.self.invariant.1 at (c.view_short.ensures.answer short k)))
@@ -51,7 +51,7 @@ returns-else-entry-ge-LONG-clause-marked c =
     let s : State = record { file = c.self.inside.bytes.now; size = c.self.inside.fat.size; loaded = record { difat = c.self.inside.difat.items; table = table c.self.inside.fat; directory = c.self.inside.directory.items; mini = mini_seen c.self.inside.mini }; marks = c.self.inside.marks; mini_marks = c.self.inside.mini_marks } in
     let e : Entry = entry c.read_entry-entry.result in
     let eo : c.entry_place-place.result ≡ place_of s c.args.id = rw c.deref.ensures.value at c.entry_place-place.ensures.place in
-    let ee : e ≡ entry_of s c.args.id = c.read_entry-entry.ensures ∙ ap (λ o. entry_at c.self.inside.bytes.now o) eo in
+    let ee : e ≡ entry_of s c.args.id = c.read_entry-entry.ensures ∙ ap (λ o. entry_at c.self.inside.fat.size c.self.inside.bytes.now o) eo in
     let some : (e.size ≡ 0 → ⊥) = c.if-entry-eq0.false in
     let little : e.size < 4096 = c.if-entry-ge-LONG.false in
     rw (← c.self.view_is) (λ long short chain h k is. more_known c.view_short.result _ _ (λ _ m. short_taken s c.args.id e chain long short _ _ ee little h m) (c.view_short.ensures.marked short chain k (ap (λ z. short_chain_of z (mini_seen c.self.inside.mini) e.start e.size c.entry_place-place.result short) c.self.invariant.1 ∙ sym (short_claimed s c.args.id e c.entry_place-place.result long short ee eo some little) ∙ is)))
@@ -61,7 +61,7 @@ returns-else-entry-ge-LONG-clause-steps c =
     let s : State = record { file = c.self.inside.bytes.now; size = c.self.inside.fat.size; loaded = record { difat = c.self.inside.difat.items; table = table c.self.inside.fat; directory = c.self.inside.directory.items; mini = mini_seen c.self.inside.mini }; marks = c.self.inside.marks; mini_marks = c.self.inside.mini_marks } in
     let e : Entry = entry c.read_entry-entry.result in
     let eo : c.entry_place-place.result ≡ place_of s c.args.id = rw c.deref.ensures.value at c.entry_place-place.ensures.place in
-    let ee : e ≡ entry_of s c.args.id = c.read_entry-entry.ensures ∙ ap (λ o. entry_at c.self.inside.bytes.now o) eo in
+    let ee : e ≡ entry_of s c.args.id = c.read_entry-entry.ensures ∙ ap (λ o. entry_at c.self.inside.fat.size c.self.inside.bytes.now o) eo in
     let some : (e.size ≡ 0 → ⊥) = c.if-entry-eq0.false in
     let little : e.size < 4096 = c.if-entry-ge-LONG.false in
     rw (← c.self.view_is) (λ long short chain h k is. c.view_short.ensures.steps short chain k (ap (λ z. short_chain_of z (mini_seen c.self.inside.mini) e.start e.size c.entry_place-place.result short) c.self.invariant.1 ∙ sym (short_claimed s c.args.id e c.entry_place-place.result long short ee eo some little) ∙ is))

@@ -1,0 +1,71 @@
+use Rattle.std.proofs.Common.{◌≡◌, ◌+◌, ◌∷◌, drop, refl, ap, arith}
+use Rattle.carrier_model.specs.Layout.{words_bytes, stream_words, run_words}
+use Rattle.cfb_writer.specs.Entered.{slot_seen}
+use Rattle.cfb_writer.specs.Laid.{bytes_of}
+use Rattle.cfb_writer.specs.Shares.{streams_of, share_pieces, share_total}
+use Rattle.cfb_writer.proofs.Going.{going_start, going_more, going_stops}
+use Rattle.cfb_writer.proofs.Shared.{entry_then, words_then, total_then}
+use Rattle.cfb_writer.proofs.streams.append_chains.Goals as goal
+
+pub loop-k-init : goal.loop-k-init
+loop-k-init g c = (going_start (g.W.Sink.held c.args.sink.now) (g.W.Sink.faults c.args.sink.now) (words_bytes (stream_words c.args.size c.args.start (streams_of c.args.share c.args.entries.now.others))), refl)
+
+pub overflow_cast-pieces : goal.overflow_cast-pieces
+overflow_cast-pieces g c =
+    let others = c.args.entries.now.others in
+    let k = c.loop-k.k in
+    let e = c.entry.result in
+    let s = slot_seen g.B.Blob.bytes e in
+    let n = c.pieces_of-pieces.result in
+    let at : drop k others ≡ s ∷ drop (k + 1) others = entry_then others k s c.entry.ensures in
+    let is : n ≡ share_pieces c.args.share c.args.size (bytes_of s) = c.pieces_of-pieces.ensures e.file.now.name.items e.left e.right e.child in
+    let total : share_total c.args.share c.args.size (drop k others) ≡ n + share_total c.args.share c.args.size (drop (k + 1) others) = omega (arith, is, ap (share_total c.args.share c.args.size) at, total_then c.args.share c.args.size s (drop (k + 1) others)) in
+    omega (arith, c.loop-k.invariant.1, total, c.requires.few)
+
+pub append_run-requires : goal.append_run-requires
+append_run-requires g c =
+    let others = c.args.entries.now.others in
+    let k = c.loop-k.k in
+    let e = c.entry.result in
+    let s = slot_seen g.B.Blob.bytes e in
+    let n = c.pieces_of-pieces.result in
+    let at : drop k others ≡ s ∷ drop (k + 1) others = entry_then others k s c.entry.ensures in
+    let is : n ≡ share_pieces c.args.share c.args.size (bytes_of s) = c.pieces_of-pieces.ensures e.file.now.name.items e.left e.right e.child in
+    let total : share_total c.args.share c.args.size (drop k others) ≡ n + share_total c.args.share c.args.size (drop (k + 1) others) = omega (arith, is, ap (share_total c.args.share c.args.size) at, total_then c.args.share c.args.size s (drop (k + 1) others)) in
+    omega (arith, c.loop-k.invariant.1, total, c.requires.few)
+
+pub overflow_add-next : goal.overflow_add-next
+overflow_add-next g c =
+    let others = c.args.entries.now.others in
+    let k = c.loop-k.k in
+    let e = c.entry.result in
+    let s = slot_seen g.B.Blob.bytes e in
+    let n = c.pieces_of-pieces.result in
+    let at : drop k others ≡ s ∷ drop (k + 1) others = entry_then others k s c.entry.ensures in
+    let is : n ≡ share_pieces c.args.share c.args.size (bytes_of s) = c.pieces_of-pieces.ensures e.file.now.name.items e.left e.right e.child in
+    let total : share_total c.args.share c.args.size (drop k others) ≡ n + share_total c.args.share c.args.size (drop (k + 1) others) = omega (arith, is, ap (share_total c.args.share c.args.size) at, total_then c.args.share c.args.size s (drop (k + 1) others)) in
+    omega (arith, c.loop-k.invariant.1, total, c.requires.few)
+
+pub returns-in_err-sum : goal.returns-in_err-sum
+returns-in_err-sum g c =
+    let others = c.args.entries.now.others in
+    let k = c.loop-k.k in
+    let e = c.entry.result in
+    let s = slot_seen g.B.Blob.bytes e in
+    let n = c.pieces_of-pieces.result in
+    let at : drop k others ≡ s ∷ drop (k + 1) others = entry_then others k s c.entry.ensures in
+    let is : n ≡ share_pieces c.args.share c.args.size (bytes_of s) = c.pieces_of-pieces.ensures e.file.now.name.items e.left e.right e.child in
+    let total : share_total c.args.share c.args.size (drop k others) ≡ n + share_total c.args.share c.args.size (drop (k + 1) others) = omega (arith, is, ap (share_total c.args.share c.args.size) at, total_then c.args.share c.args.size s (drop (k + 1) others)) in
+    going_stops (words_bytes (run_words c.loop-k.next n)) (words_bytes (stream_words c.args.size (c.loop-k.next + n) (streams_of c.args.share (drop (k + 1) others)))) (words_then c.args.share c.args.size c.loop-k.next n (drop k others) s (drop (k + 1) others) at is) c.from_residual.ensures.0 c.loop-k.invariant.0 c.in_err-sum.ensures
+
+pub loop-k-preserved : goal.loop-k-preserved
+loop-k-preserved g c =
+    let others = c.args.entries.now.others in
+    let k = c.loop-k.k in
+    let e = c.entry.result in
+    let s = slot_seen g.B.Blob.bytes e in
+    let n = c.pieces_of-pieces.result in
+    let at : drop k others ≡ s ∷ drop (k + 1) others = entry_then others k s c.entry.ensures in
+    let is : n ≡ share_pieces c.args.share c.args.size (bytes_of s) = c.pieces_of-pieces.ensures e.file.now.name.items e.left e.right e.child in
+    let total : share_total c.args.share c.args.size (drop k others) ≡ n + share_total c.args.share c.args.size (drop (k + 1) others) = omega (arith, is, ap (share_total c.args.share c.args.size) at, total_then c.args.share c.args.size s (drop (k + 1) others)) in
+    (going_more _ (words_bytes (run_words c.loop-k.next n)) (words_bytes (stream_words c.args.size (c.loop-k.next + n) (streams_of c.args.share (drop (k + 1) others)))) (words_then c.args.share c.args.size c.loop-k.next n (drop k others) s (drop (k + 1) others) at is) refl c.loop-k.invariant.0 c.in_ok-sum.ensures, omega (arith, c.loop-k.invariant.1, total))

@@ -1,0 +1,16 @@
+pub mod Contents
+pub mod Entered
+pub mod Laid
+pub mod Listed
+pub mod Numbered
+pub mod Placed
+pub mod PlanEnds
+pub mod PlanKept
+pub mod Planned
+pub mod Runs
+pub mod Shares
+pub mod Sorting
+pub mod Summed
+pub mod Totals
+pub mod Trees
+pub mod Versions

@@ -1,0 +1,13 @@
+-- What a plan keeps to.
+use Rattle.std.specs.Prelude.{◌≡◌, ℕ, ◌+◌, ◌*◌}
+use Rattle.std.specs.List.{AllByRecursion}
+use Rattle.carrier_model.specs.Layout.{rest_of}
+use Rattle.cfb_writer.specs.Laid.{Laid, IsShort, others_of, slots_in}
+use Rattle.cfb_writer.specs.Numbered.{plan_seen, IsSmall, IsPlanFor}
+use Rattle.cfb_writer.specs.declared.numbers.Numbers.{Numbers}
+
+pub record IsPlanned (z : ℕ) (numbers : Numbers) (laid : Laid) (size : ℕ) : Type 0 where
+  pub small : IsSmall numbers
+  pub plan : IsPlanFor z (plan_seen numbers) (slots_in laid)
+  pub short : AllByRecursion IsShort (others_of laid)
+  pub whole : size ≡ z * (1 + (numbers.fat + numbers.difat + rest_of (plan_seen numbers).sizes))

@@ -1,0 +1,211 @@
+//! The directory.
+ghost use Rattle.std.specs.Prelude.{◌≡◌, ◌≤◌, ◌<◌, ◌+◌, ◌^◌, length};
+ghost use Rattle.std.specs.List.{flat_map, range_with_len, AllByRecursion};
+ghost use Rattle.carrier_model.specs.Bytes.{le16};
+ghost use Rattle.carrier_model.specs.Layout as layout;
+ghost use Rattle.cfb_writer.specs.Contents.{content_bytes};
+ghost use Rattle.cfb_writer.specs.Entered.{slot_seen, record_bytes, stream_start};
+ghost use Rattle.cfb_writer.specs.Laid.{bytes_of, IsShort, root_slot, slots_in, others_of};
+ghost use Rattle.cfb_writer.specs.Numbered.{plan_seen, IsSmall, IsPlanFor};
+ghost use Rattle.cfb_writer.specs.Summed.{Sums};
+ghost use Rattle.cfb_writer.specs.Shares.{share_total};
+ghost use Rattle.cfb_writer.specs.Versions.{sector_of};
+
+use crate::appending::{append, append_parts, append_zeros};
+use crate::content::{Content, Kind};
+use crate::entries::{Entries, Entry};
+use crate::header::start_or_end;
+use crate::links::NO_LINK;
+use crate::numbers::Numbers;
+use crate::runs::END;
+use crate::streams::{Share, pieces_of};
+use crate::version::Version;
+use carrier_io::{Blob, Failed, Sink, le16, le32};
+
+/// Root Entry.
+const ROOT_NAME: [u16; 10] = [82, 111, 111, 116, 32, 69, 110, 116, 114, 121];
+
+/// An entry's fields behind its name.
+#[derive(Clone, Copy, Debug, PartialEq, Eq)]
+struct Fields {
+    kind: u8,
+    left: u32,
+    right: u32,
+    child: u32,
+    class: [u8; 16],
+    start: u32,
+    size: u32,
+}
+
+/// Appends units.
+fn append_units<W: Sink>(sink: &mut W, units: &[u16]) -> Result<u16, Failed>
+    ensures { Sums (W.held sink.old) (W.held sink.new) (W.faults sink.old) (W.faults sink.new) result (flat_map le16 units.now) }
+{
+    let mut sum = 0u16;
+    for unit in units {
+        sum = sum.wrapping_add(append(sink, &le16(*unit))?);
+    }
+    Ok(sum)
+}
+
+/// Appends a name with zeros up to 64 bytes, and its length with its null. [MS-CFB 2.6.1]
+fn append_name<W: Sink>(sink: &mut W, name: &[u16]) -> Result<u16, Failed>
+    requires { length name.now ≤ 31 }
+    ensures { Sums (W.held sink.old) (W.held sink.new) (W.faults sink.old) (W.faults sink.new) result (layout.name_field name.now) }
+{
+    let units = append_units(sink, name)?;
+    let zeros = append_zeros(sink, 64 - 2 * name.len() as u64)?;
+    let len = append(sink, &le16(2 * (name.len() as u16 + 1)))?;
+    Ok(units.wrapping_add(zeros.wrapping_add(len)))
+}
+
+/// Appends an entry.
+fn append_fields<W: Sink>(sink: &mut W, name: &[u16], fields: &Fields) -> Result<u16, Failed>
+    requires { length name.now ≤ 31 }
+    ensures { Sums (W.held sink.old) (W.held sink.new) (W.faults sink.old) (W.faults sink.new) result (record_bytes name.now fields.now) }
+{
+    let field = append_name(sink, name)?;
+    let others = append_parts(
+        sink,
+        &[
+            &[fields.kind, 1],
+            &le32(fields.left),
+            &le32(fields.right),
+            &le32(fields.child),
+            &fields.class,
+            &[0; 20],
+            &le32(fields.start),
+            &le32(fields.size),
+            &[0; 4],
+        ],
+    )?;
+    Ok(field.wrapping_add(others))
+}
+
+/// Where the next short stream begins in the mini stream, and the next long one in the file, in sectors.
+#[derive(Clone, Copy, Debug, PartialEq, Eq)]
+pub struct Next {
+    pub mini: u32,
+    pub long: u32,
+}
+
+/// Where a content begins.
+fn start_of<B: Blob>(content: &Content<'_, B>, next: Next) -> u32
+    ensures { result ≡ stream_start next (content_bytes B.bytes content.now) }
+{
+    if content.is_short() {
+        next.mini
+    } else if content.is_long() {
+        next.long
+    } else {
+        END
+    }
+}
+
+/// Appends an entry beside the root.
+fn append_entry<B: Blob, W: Sink>(
+    sink: &mut W,
+    entry: &Entry<'_, '_, B>,
+    next: Next,
+) -> Result<u16, Failed>
+    requires { IsShort (slot_seen B.bytes entry.now) }
+    ensures { Sums (W.held sink.old) (W.held sink.new) (W.faults sink.old) (W.faults sink.new) result (layout.slot_bytes (slot_seen B.bytes entry.now) (layout.start_of_slot next.mini next.long (slot_seen B.bytes entry.now)) (length (bytes_of (slot_seen B.bytes entry.now)))) }
+{
+    let mut fields = Fields {
+        kind: 1,
+        left: entry.left,
+        right: entry.right,
+        child: entry.child,
+        class: [0; 16],
+        start: 0,
+        size: 0,
+    };
+    match &entry.file.kind {
+        Kind::Stream(content) => {
+            fields.kind = 2;
+            fields.start = start_of(content, next);
+            fields.size = content.size() as u32;
+        }
+        Kind::Storage { class, .. } => fields.class = *class,
+    }
+    append_fields(sink, &entry.file.name, &fields)
+}
+
+/// Appends the entries beside the root, where the first streams begin there.
+pub fn append_entries<B: Blob, W: Sink>(
+    sink: &mut W,
+    version: Version,
+    entries: &Entries<'_, B>,
+    first: Next,
+) -> Result<u16, Failed>
+    requires short { AllByRecursion IsShort entries.now.others }
+    requires mini { first.mini + share_total Share.Short 64 entries.now.others ≤ 2147483648 }
+    requires long { first.long + share_total Share.Long (sector_of version) entries.now.others ≤ 2147483648 }
+    ensures { Sums (W.held sink.old) (W.held sink.new) (W.faults sink.old) (W.faults sink.new) result (layout.slots_bytes (sector_of version) first.mini first.long entries.now.others) }
+{
+    let mut next = first;
+    let mut sum = 0u16;
+    for k in 0..entries.len() {
+        let entry = entries.entry(k);
+        sum = sum.wrapping_add(append_entry(sink, &entry, next)?);
+        next.mini += pieces_of(&entry.file.kind, Share::Short, 64) as u32;
+        next.long += pieces_of(&entry.file.kind, Share::Long, version.sector()) as u32;
+    }
+    Ok(sum)
+}
+
+/// Appends the root's entry, which tells of the mini stream. [MS-CFB 2.6.2]
+fn append_root<B: Blob, W: Sink>(
+    sink: &mut W,
+    numbers: &Numbers,
+    entries: &Entries<'_, B>,
+) -> Result<u16, Failed>
+    requires { IsSmall numbers.now }
+    ensures { Sums (W.held sink.old) (W.held sink.new) (W.faults sink.old) (W.faults sink.new) result (layout.root_bytes (plan_seen numbers.now) (root_slot entries.now.root_class entries.now.top)) }
+{
+    let fields = Fields {
+        kind: 5,
+        left: NO_LINK,
+        right: NO_LINK,
+        child: entries.top(),
+        class: entries.root_class(),
+        start: start_or_end(numbers.mini_sectors, numbers.mini_stream_start()),
+        size: 64 * numbers.mini_sectors,
+    };
+    append_fields(sink, &ROOT_NAME, &fields)
+}
+
+/// Appends entries that are not used. [MS-CFB 2.6.3]
+fn append_unused<W: Sink>(sink: &mut W, count: u32) -> Result<u16, Failed>
+    ensures { Sums (W.held sink.old) (W.held sink.new) (W.faults sink.old) (W.faults sink.new) result (flat_map (λ _. layout.unused_slot) (range_with_len 0 count)) }
+{
+    let mut sum = 0u16;
+    for _k in 0..count {
+        let part = append_parts(sink, &[&[0; 68], &[0xFF; 12], &[0; 48]])?;
+        sum = sum.wrapping_add(part);
+    }
+    Ok(sum)
+}
+
+/// Appends the directory. [MS-CFB 2.6]
+pub fn append_directory<B: Blob, W: Sink>(
+    sink: &mut W,
+    version: Version,
+    numbers: &Numbers,
+    entries: &Entries<'_, B>,
+) -> Result<u16, Failed>
+    requires small { IsSmall numbers.now }
+    requires plan { IsPlanFor (sector_of version) (plan_seen numbers.now) (slots_in entries.now) }
+    requires short { AllByRecursion IsShort (others_of entries.now) }
+    ensures { Sums (W.held sink.old) (W.held sink.new) (W.faults sink.old) (W.faults sink.new) result (layout.directory_bytes (sector_of version) (plan_seen numbers.now) (slots_in entries.now)) }
+{
+    let root = append_root(sink, numbers, entries)?;
+    let first = Next {
+        mini: 0,
+        long: numbers.long_start(),
+    };
+    let others = append_entries(sink, version, entries, first)?;
+    let room = version.sector() as u32 / 128 * numbers.directory;
+    let unused = append_unused(sink, room - (1 + entries.len() as u32))?;
+    Ok(root.wrapping_add(others.wrapping_add(unused)))
+}

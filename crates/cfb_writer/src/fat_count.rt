@@ -1,0 +1,39 @@
+//! The least number of sectors of a table.
+ghost use Rattle.std.specs.Prelude.{◌≡◌, ◌≤◌, ◌+◌, ◌*◌, ◌/◌, ◌^◌};
+ghost use Rattle.carrier_model.specs.Layout as layout;
+ghost use Rattle.carrier_model.specs.Tables as tables;
+ghost use Rattle.cfb_writer.specs.Versions.{sector_of};
+
+use crate::version::Version;
+
+/// How many sectors list the sectors of a table, beside the header. [MS-CFB 2.5]
+pub fn difat_count(version: Version, fat: u64) -> u64
+    requires { fat ≤ 2 ^ 62 }
+    ensures { result ≡ tables.difat_count (sector_of version) fat }
+{
+    let words = version.sector() / 4;
+    (fat.saturating_sub(109) + (words - 2)) / (words - 1)
+}
+
+/// Whether a table of so many sectors has a word for every sector.
+fn suffices(version: Version, rest: u64, fat: u64) -> bool
+    requires rest { rest ≤ 2 ^ 60 }
+    requires fat { fat ≤ rest + 1 }
+    ensures { result ≡ layout.suffices (sector_of version) rest fat }
+{
+    let words = version.sector() / 4;
+    fat + difat_count(version, fat) + rest <= words.saturating_mul(fat)
+}
+
+/// The least number of sectors of a table that has a word for every sector, where there are so many others.
+pub fn fat_count(version: Version, rest: u64) -> u64
+    requires { rest ≤ 2 ^ 60 }
+    ensures { result ≡ layout.fat_count (sector_of version) rest }
+{
+    let words = version.sector() / 4;
+    let mut fat = 0;
+    while !suffices(version, rest, fat) {
+        fat = (rest + difat_count(version, fat)).div_ceil(words - 1);
+    }
+    fat
+}

@@ -1,0 +1,47 @@
+//! How many sectors each part of a file has, and where it begins.
+ghost use Rattle.std.specs.Prelude.{◌≡◌};
+ghost use Rattle.carrier_model.specs.Layout as layout;
+ghost use Rattle.cfb_writer.specs.Numbered.{plan_seen, IsSmall};
+
+/// How many sectors each part has: the table, the sectors that list it, the directory, the mini table, the mini stream
+/// and the streams with sectors of their own. Of the mini stream also how many mini sectors.
+#[derive(Clone, Copy, Debug, PartialEq, Eq)]
+pub struct Numbers {
+    pub fat: u32,
+    pub difat: u32,
+    pub directory: u32,
+    pub mini_fat: u32,
+    pub mini_sectors: u32,
+    pub mini_stream: u32,
+    pub long: u32,
+}
+
+impl Numbers {
+    pub fn directory_start(&self) -> u32
+        requires { IsSmall self.now }
+        ensures { result ≡ layout.directory_start (plan_seen self.now) }
+    {
+        self.fat + self.difat
+    }
+
+    pub fn mini_fat_start(&self) -> u32
+        requires { IsSmall self.now }
+        ensures { result ≡ layout.mini_fat_start (plan_seen self.now) }
+    {
+        self.fat + self.difat + self.directory
+    }
+
+    pub fn mini_stream_start(&self) -> u32
+        requires { IsSmall self.now }
+        ensures { result ≡ layout.mini_stream_start (plan_seen self.now) }
+    {
+        self.fat + self.difat + self.directory + self.mini_fat
+    }
+
+    pub fn long_start(&self) -> u32
+        requires { IsSmall self.now }
+        ensures { result ≡ layout.long_start (plan_seen self.now) }
+    {
+        self.fat + self.difat + self.directory + self.mini_fat + self.mini_stream
+    }
+}

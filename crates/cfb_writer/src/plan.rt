@@ -1,0 +1,180 @@
+//! A compound file, planned and written.
+use crate::entries::Entries;
+use crate::fat_count::{difat_count, fat_count};
+use crate::list::FileList;
+use crate::numbers::Numbers;
+use crate::plan_entries::entries_of;
+use crate::totals::{Totals, all_totals};
+use crate::version::Version;
+use crate::whole::append_file;
+use carrier_io::{Blob, Failed, PlanEnd, Sink, SureSink, Writing};
+use std::alloc::Global;
+use std::marker::Model;
+
+/// The most bytes of an output.
+const MOST_BYTES: u64 = 268_435_456;
+
+/// What will be written for a list. It keeps the list, and holds no output.
+#[derive(Drop)]
+pub struct Plan<'t, B: Blob> {
+    version: Version,
+    numbers: Numbers,
+    entries: Entries<'t, B>,
+    size: u64,
+}
+
+impl<'t, B: Blob> Model for Plan<'t, B> {
+    ghost use Rattle.std.specs.Prelude.{List, ℕ};
+    ghost use Rattle.carrier_model.specs.Layout.{file_bytes};
+    ghost use Rattle.cfb_writer.specs.Laid.{slots_in};
+    ghost use Rattle.cfb_writer.specs.Numbered.{plan_seen};
+    ghost use Rattle.cfb_writer.specs.PlanKept.{IsPlanned};
+    ghost use Rattle.cfb_writer.specs.Versions.{sector_of};
+
+    ghost Value = { List ℕ };
+
+    ghost view = { λ s. file_bytes (sector_of s.version) (plan_seen s.numbers) (slots_in s.entries) };
+
+    ghost invariant = { λ s. IsPlanned (sector_of s.version) s.numbers s.entries s.size };
+}
+
+/// How many sectors each part has, and all of them with the header, where the numbers are such that no sum of them
+/// wraps; None where there are more bytes than a `u64` can tell.
+#[derive(Drop)]
+struct PartCounts {
+    directory: u64,
+    mini_fat: u64,
+    mini_stream: u64,
+    fat: u64,
+    difat: u64,
+    all: u64,
+}
+
+/// The sectors of each part.
+fn count_parts(version: Version, totals: Totals) -> Option<PartCounts> {
+    let sector = version.sector();
+    let directory_bytes = totals.entries.saturating_add(1).saturating_mul(128);
+    let mini_bytes = totals.mini.saturating_mul(64);
+    let long_bytes = totals.long.saturating_mul(sector);
+    if directory_bytes == u64::MAX || mini_bytes == u64::MAX || long_bytes == u64::MAX {
+        return None;
+    }
+    let directory = directory_bytes.div_ceil(sector);
+    let mini_fat = (totals.mini * 4).div_ceil(sector);
+    let mini_stream = mini_bytes.div_ceil(sector);
+    let rest = directory + mini_fat + mini_stream + totals.long;
+    let fat = fat_count(version, rest);
+    let difat = difat_count(version, fat);
+    let all = 1 + fat + difat + rest;
+    Some(PartCounts {
+        directory,
+        mini_fat,
+        mini_stream,
+        fat,
+        difat,
+        all,
+    })
+}
+
+impl<'t, B: Blob> Plan<'t, B> {
+    ghost use Rattle.std.specs.Prelude.{◌≡◌, length, IfOk, IfErr};
+    ghost use Rattle.cfb_writer.specs.Listed.{tree_of};
+    ghost use Rattle.cfb_writer.specs.Planned.{layout_of};
+    ghost use Rattle.cfb_writer.specs.PlanEnds.{IsEndOf};
+    ghost use Rattle.carrier_io.specs.Known.{Writes};
+    ghost use Rattle.carrier_model.specs.Bytes.{sum16};
+    ghost use Rattle.carrier_model.specs.Layout.{file_bytes};
+    ghost use Rattle.cfb_writer.specs.Laid.{slots_in};
+    ghost use Rattle.cfb_writer.specs.Numbered.{plan_seen};
+    ghost use Rattle.cfb_writer.specs.PlanKept.{IsPlanned};
+    ghost use Rattle.cfb_writer.specs.Versions.{sector_of};
+
+    /// A plan of entries, whose parts have so many sectors.
+    pub(crate) fn of_parts(
+        version: Version,
+        numbers: Numbers,
+        entries: Entries<'t, B>,
+        size: u64,
+    ) -> Plan<'t, B>
+        requires { IsPlanned (sector_of version) numbers entries size }
+        ensures { result ≡ file_bytes (sector_of version) (plan_seen numbers) (slots_in entries.entry) }
+    {
+        Plan {
+            version,
+            numbers,
+            entries,
+            size,
+        }
+    }
+
+    /// A plan of a list. TooLarge says that its file has more bytes than an output may have, and how many; a number
+    /// above the greatest `u64` stays there.
+    pub fn new(
+        alloc: Global,
+        version: Version,
+        files: FileList<'t, B>,
+    ) -> Result<Plan<'t, B>, PlanEnd>
+        ensures ok { IfOk result (λ p. p ≡ layout_of (sector_of version) files.entry.root_class (tree_of files.entry.storages)) }
+        ensures end { IfErr result (IsEndOf (layout_of (sector_of version) files.entry.root_class (tree_of files.entry.storages))) }
+    {
+        let list = files.sorted()?;
+        let totals = all_totals(alloc, version, &list)?;
+        let whole = totals[0];
+        let counts = match count_parts(version, whole) {
+            Some(counts) => counts,
+            None => return Err(PlanEnd::TooLarge(u64::MAX)),
+        };
+        let size = version.sector().saturating_mul(counts.all);
+        if size > MOST_BYTES {
+            return Err(PlanEnd::TooLarge(size));
+        }
+        let numbers = Numbers {
+            fat: counts.fat as u32,
+            difat: counts.difat as u32,
+            directory: counts.directory as u32,
+            mini_fat: counts.mini_fat as u32,
+            mini_sectors: whole.mini as u32,
+            mini_stream: counts.mini_stream as u32,
+            long: whole.long as u32,
+        };
+        let entries = entries_of(alloc, list, &totals)?;
+        Ok(Plan::of_parts(version, numbers, entries, size))
+    }
+
+    /// How many bytes are written.
+    pub fn size(&self) -> u64
+        ensures { result ≡ length self.now }
+    {
+        self.size
+    }
+
+    /// Appends the file. It takes no memory. Failed says that the sink failed; then a front of the file may stand
+    /// there. [MS-CFB 2.1]
+    pub fn write<W: Sink>(&self, sink: &mut W) -> Result<(), Failed>
+        ensures { Writes (W.held sink.old) (W.held sink.new) (W.faults sink.old) (W.faults sink.new) result self.now }
+    {
+        match append_file(sink, self.version, &self.numbers, &self.entries) {
+            Ok(_) => Ok(()),
+            Err(failed) => Err(failed),
+        }
+    }
+
+    /// The sum of the bytes modulo 65,536.
+    pub fn sum(&self) -> u16
+        ensures { result ≡ sum16 self.now }
+    {
+        let mut sink = SureSink::new();
+        match append_file(&mut sink, self.version, &self.numbers, &self.entries) {
+            Ok(sum) => sum,
+            Err(_) => unreachable!(),
+        }
+    }
+}
+
+impl<'t, B: Blob> Writing for Plan<'t, B> {
+    ghost text = { λ p. p };
+
+    fn write_to<W: Sink>(&self, sink: &mut W) -> Result<(), Failed> {
+        self.write(sink)
+    }
+}

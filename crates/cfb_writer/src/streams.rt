@@ -1,0 +1,134 @@
+//! The streams of the mini stream, and those with sectors of their own.
+ghost use Rattle.std.specs.Prelude.{◌≡◌, ◌≤◌, ◌<◌, ◌+◌, List, ℕ};
+ghost use Rattle.std.specs.List.{flat_map};
+ghost use Rattle.carrier_model.specs.Layout as layout;
+ghost use Rattle.cfb_writer.specs.Contents.{content_bytes, child_named};
+ghost use Rattle.cfb_writer.specs.Laid.{bytes_of};
+ghost use Rattle.cfb_writer.specs.Placed.{slot_of};
+ghost use Rattle.cfb_writer.specs.Shares as shares;
+ghost use Rattle.cfb_writer.specs.Summed.{Sums};
+
+use crate::appending::{append_content, append_zeros};
+use crate::content::{Content, Kind};
+use crate::entries::Entries;
+use crate::runs::{Run, append_run};
+use carrier_io::{Blob, Failed, Sink};
+
+/// Some of the streams.
+#[derive(Clone, Copy, Debug, PartialEq, Eq)]
+pub enum Share {
+    /// Those of the mini stream.
+    Short,
+    /// Those with sectors of their own.
+    Long,
+}
+
+impl Share {
+    /// Whether a content is among them.
+    fn has<B: Blob>(self, content: &Content<'_, B>) -> bool
+        ensures { result ≡ shares.is_of self (content_bytes B.bytes content.now) }
+    {
+        match self {
+            Share::Short => content.is_short(),
+            Share::Long => content.is_long(),
+        }
+    }
+}
+
+/// How many pieces of a size a file's stream has, if it is one of the share.
+pub fn pieces_of<B: Blob>(kind: &Kind<'_, B>, share: Share, size: u64) -> u64
+    requires some { 64 ≤ size }
+    requires few { size ≤ 4096 }
+    ensures { (name : List ℕ) (left right child : ℕ) → result ≡ shares.share_pieces share size (bytes_of (slot_of (child_named B.bytes name kind.now) left right child)) }
+{
+    match kind {
+        Kind::Stream(content) => {
+            if share.has(content) {
+                content.pieces(size)
+            } else {
+                0
+            }
+        }
+        Kind::Storage { .. } => 0,
+    }
+}
+
+/// Appends a content with zeros up to whole pieces.
+fn append_filled<B: Blob, W: Sink>(
+    sink: &mut W,
+    content: &Content<'_, B>,
+    size: u64,
+) -> Result<u16, Failed>
+    requires some { 64 ≤ size }
+    requires few { size ≤ 4096 }
+    ensures { Sums (W.held sink.old) (W.held sink.new) (W.faults sink.old) (W.faults sink.new) result (layout.filled size (content_bytes B.bytes content.now)) }
+{
+    let bytes = append_content(sink, content)?;
+    let zeros = append_zeros(sink, content.missing(size))?;
+    Ok(bytes.wrapping_add(zeros))
+}
+
+/// Appends a file's stream with zeros up to whole pieces, if it is one of the share.
+fn append_shared<B: Blob, W: Sink>(
+    sink: &mut W,
+    kind: &Kind<'_, B>,
+    share: Share,
+    size: u64,
+) -> Result<u16, Failed>
+    requires some { 64 ≤ size }
+    requires few { size ≤ 4096 }
+    ensures { (name : List ℕ) (left right child : ℕ) → Sums (W.held sink.old) (W.held sink.new) (W.faults sink.old) (W.faults sink.new) result (shares.share_bytes share size (bytes_of (slot_of (child_named B.bytes name kind.now) left right child))) }
+{
+    match kind {
+        Kind::Stream(content) => {
+            if share.has(content) {
+                append_filled(sink, content, size)
+            } else {
+                Ok(0)
+            }
+        }
+        Kind::Storage { .. } => Ok(0),
+    }
+}
+
+/// Appends the chains of the streams of a share, the first of which begins at this sector.
+pub fn append_chains<B: Blob, W: Sink>(
+    sink: &mut W,
+    entries: &Entries<'_, B>,
+    share: Share,
+    size: u64,
+    start: u32,
+) -> Result<u16, Failed>
+    requires some { 64 ≤ size }
+    requires small { size ≤ 4096 }
+    requires few { start + shares.share_total share size entries.now.others ≤ 2147483648 }
+    ensures { Sums (W.held sink.old) (W.held sink.new) (W.faults sink.old) (W.faults sink.new) result (layout.words_bytes (layout.stream_words size start (shares.streams_of share entries.now.others))) }
+{
+    let mut next = start;
+    let mut sum = 0u16;
+    for k in 0..entries.len() {
+        let pieces = pieces_of(&entries.entry(k).file.kind, share, size) as u32;
+        sum = sum.wrapping_add(append_run(sink, Run::Chain(next), pieces)?);
+        next += pieces;
+    }
+    Ok(sum)
+}
+
+/// Appends the streams of a share, each with zeros up to whole pieces.
+pub fn append_streams<B: Blob, W: Sink>(
+    sink: &mut W,
+    entries: &Entries<'_, B>,
+    share: Share,
+    size: u64,
+) -> Result<u16, Failed>
+    requires some { 64 ≤ size }
+    requires few { size ≤ 4096 }
+    ensures { Sums (W.held sink.old) (W.held sink.new) (W.faults sink.old) (W.faults sink.new) result (flat_map (layout.filled size) (shares.streams_of share entries.now.others)) }
+{
+    let mut sum = 0u16;
+    for k in 0..entries.len() {
+        let entry = entries.entry(k);
+        sum = sum.wrapping_add(append_shared(sink, &entry.file.kind, share, size)?);
+    }
+    Ok(sum)
+}

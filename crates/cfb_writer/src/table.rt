@@ -1,0 +1,136 @@
+//! The table, the mini table, and the list of the table's sectors.
+ghost use Rattle.std.specs.Prelude.{◌≡◌, ◌≤◌, ◌<◌, ◌+◌};
+ghost use Rattle.carrier_model.specs.Layout as layout;
+ghost use Rattle.cfb_writer.specs.Laid.{slots_in};
+ghost use Rattle.cfb_writer.specs.Numbered.{plan_seen, front_words, next_list, IsSmall, IsPlanFor};
+ghost use Rattle.cfb_writer.specs.Summed.{Sums};
+ghost use Rattle.cfb_writer.specs.Versions.{sector_of};
+
+use crate::entries::Entries;
+use crate::numbers::Numbers;
+use crate::runs::{END, FREE, Run, append_run, append_runs};
+use crate::streams::{Share, append_chains};
+use crate::version::Version;
+use carrier_io::{Blob, Failed, Sink};
+
+/// The word of a sector of the table.
+const FAT_SECTOR: u32 = 0xFFFF_FFFD;
+
+/// The word of a sector that lists the table's.
+const DIFAT_SECTOR: u32 = 0xFFFF_FFFC;
+
+/// Appends the words of all parts before the streams with sectors of their own.
+fn append_fronts<W: Sink>(sink: &mut W, numbers: &Numbers) -> Result<u16, Failed>
+    requires { IsSmall numbers.now }
+    ensures { Sums (W.held sink.old) (W.held sink.new) (W.faults sink.old) (W.faults sink.new) result (layout.words_bytes (front_words (plan_seen numbers.now))) }
+{
+    append_runs(
+        sink,
+        &[
+            (Run::Same(FAT_SECTOR), numbers.fat),
+            (Run::Same(DIFAT_SECTOR), numbers.difat),
+            (Run::Chain(numbers.directory_start()), numbers.directory),
+            (Run::Chain(numbers.mini_fat_start()), numbers.mini_fat),
+            (Run::Chain(numbers.mini_stream_start()), numbers.mini_stream),
+        ],
+    )
+}
+
+/// Appends the table. [MS-CFB 2.3]
+pub fn append_table<B: Blob, W: Sink>(
+    sink: &mut W,
+    version: Version,
+    numbers: &Numbers,
+    entries: &Entries<'_, B>,
+) -> Result<u16, Failed>
+    requires small { IsSmall numbers.now }
+    requires plan { IsPlanFor (sector_of version) (plan_seen numbers.now) (slots_in entries.now) }
+    ensures { Sums (W.held sink.old) (W.held sink.new) (W.faults sink.old) (W.faults sink.new) result (layout.words_bytes (layout.table_of (sector_of version) (plan_seen numbers.now) (slots_in entries.now))) }
+{
+    let fronts = append_fronts(sink, numbers)?;
+    let chains = append_chains(
+        sink,
+        entries,
+        Share::Long,
+        version.sector(),
+        numbers.long_start(),
+    )?;
+    let words = version.sector() as u32 / 4 * numbers.fat;
+    let free = append_run(
+        sink,
+        Run::Same(FREE),
+        words - (numbers.long_start() + numbers.long),
+    )?;
+    Ok(fronts.wrapping_add(chains.wrapping_add(free)))
+}
+
+/// Appends the mini table. [MS-CFB 2.4]
+pub fn append_mini_table<B: Blob, W: Sink>(
+    sink: &mut W,
+    version: Version,
+    numbers: &Numbers,
+    entries: &Entries<'_, B>,
+) -> Result<u16, Failed>
+    requires small { IsSmall numbers.now }
+    requires plan { IsPlanFor (sector_of version) (plan_seen numbers.now) (slots_in entries.now) }
+    ensures { Sums (W.held sink.old) (W.held sink.new) (W.faults sink.old) (W.faults sink.new) result (layout.words_bytes (layout.mini_table_of (sector_of version) (plan_seen numbers.now) (slots_in entries.now))) }
+{
+    let chains = append_chains(sink, entries, Share::Short, 64, 0)?;
+    let words = version.sector() as u32 / 4 * numbers.mini_fat;
+    let free = append_run(sink, Run::Same(FREE), words - numbers.mini_sectors)?;
+    Ok(chains.wrapping_add(free))
+}
+
+/// The word that names the next sector that lists sectors of the table, behind the k-th.
+fn list_behind(numbers: &Numbers, k: u32) -> u32
+    requires small { IsSmall numbers.now }
+    requires place { k < numbers.now.difat }
+    ensures { result ≡ next_list (plan_seen numbers.now) k }
+{
+    if k + 1 == numbers.difat {
+        END
+    } else {
+        numbers.fat + k + 1
+    }
+}
+
+/// Appends a sector that lists sectors of the table: the k-th of them, from 0. [MS-CFB 2.5]
+fn append_list<W: Sink>(
+    sink: &mut W,
+    version: Version,
+    numbers: &Numbers,
+    k: u32,
+) -> Result<u16, Failed>
+    requires small { IsSmall numbers.now }
+    requires place { k < numbers.now.difat }
+    ensures { Sums (W.held sink.old) (W.held sink.new) (W.faults sink.old) (W.faults sink.new) result (layout.words_bytes (layout.difat_words (sector_of version) (plan_seen numbers.now) k)) }
+{
+    let each = version.sector() as u32 / 4 - 1;
+    let first = 109 + each * k;
+    let listed = numbers.fat.saturating_sub(first).min(each);
+    let last = list_behind(numbers, k);
+    append_runs(
+        sink,
+        &[
+            (Run::Numbers(first), listed),
+            (Run::Same(FREE), each - listed),
+            (Run::Same(last), 1),
+        ],
+    )
+}
+
+/// Appends the sectors that list those of the table.
+pub fn append_lists<W: Sink>(
+    sink: &mut W,
+    version: Version,
+    numbers: &Numbers,
+) -> Result<u16, Failed>
+    requires { IsSmall numbers.now }
+    ensures { Sums (W.held sink.old) (W.held sink.new) (W.faults sink.old) (W.faults sink.new) result (layout.difat_bytes (sector_of version) (plan_seen numbers.now)) }
+{
+    let mut sum = 0u16;
+    for k in 0..numbers.difat {
+        sum = sum.wrapping_add(append_list(sink, version, numbers, k)?);
+    }
+    Ok(sum)
+}

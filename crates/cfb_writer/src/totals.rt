@@ -1,0 +1,127 @@
+//! How much room trees need.
+ghost use Rattle.std.specs.Prelude.{◌≡◌, ◌<◌, ◌+◌, ◌∷◌, [], ℕ, List, length, vec_len, IfOk};
+ghost use Rattle.carrier_model.specs.FileTrees.{FileTree};
+ghost use Rattle.carrier_model.specs.Totals.{capped};
+ghost use Rattle.cfb_writer.specs.Contents.{content_bytes, child_named};
+ghost use Rattle.cfb_writer.specs.Listed as listed;
+ghost use Rattle.cfb_writer.specs.Totals.{totals_of, AreKnown};
+ghost use Rattle.cfb_writer.specs.Trees.{inside, mini_pieces, long_pieces};
+ghost use Rattle.cfb_writer.specs.Versions.{sector_of};
+
+use crate::content::{Content, Kind};
+use crate::list::FileList;
+use crate::version::Version;
+use carrier_io::{Blob, NoMemory};
+use std::alloc::Global;
+
+/// How many entries, mini sectors and sectors of streams of their own there are. A number above the greatest `u64` stays
+/// there.
+#[derive(Clone, Copy, Debug, PartialEq, Eq)]
+pub struct Totals {
+    pub entries: u64,
+    pub mini: u64,
+    pub long: u64,
+}
+
+/// Nothing.
+pub const NOTHING: Totals = Totals {
+    entries: 0,
+    mini: 0,
+    long: 0,
+};
+
+impl Totals {
+    /// Both together.
+    fn and(self, other: Totals) -> Totals
+        ensures entries { result.entries ≡ capped (self.entries + other.entries) }
+        ensures mini { result.mini ≡ capped (self.mini + other.mini) }
+        ensures long { result.long ≡ capped (self.long + other.long) }
+    {
+        Totals {
+            entries: self.entries.saturating_add(other.entries),
+            mini: self.mini.saturating_add(other.mini),
+            long: self.long.saturating_add(other.long),
+        }
+    }
+}
+
+/// The mini sectors of a content.
+pub fn mini_of<B: Blob>(content: &Content<'_, B>) -> u64
+    ensures { result ≡ mini_pieces (content_bytes B.bytes content.now) }
+{
+    if content.is_short() {
+        content.pieces(64)
+    } else {
+        0
+    }
+}
+
+/// The sectors of a content.
+pub fn long_of<B: Blob>(version: Version, content: &Content<'_, B>) -> u64
+    ensures { result ≡ long_pieces (sector_of version) (content_bytes B.bytes content.now) }
+{
+    if content.is_long() {
+        content.pieces(version.sector())
+    } else {
+        0
+    }
+}
+
+/// What a stream needs, or a storage with what is in it.
+fn kind_totals<B: Blob>(version: Version, kind: &Kind<'_, B>, totals: &[Totals]) -> Totals
+    requires { (parent : ℕ) × listed.IsChild parent (length totals.now) (child_named B.bytes [] kind.now) }
+    ensures { (parent : ℕ) (name : List ℕ) (tree : ℕ → FileTree) → listed.IsChild parent (length totals.now) (child_named B.bytes [] kind.now) → AreKnown (sector_of version) tree (parent + 1) totals.now → result ≡ totals_of (sector_of version) (listed.built tree (child_named B.bytes name kind.now ∷ [])) }
+{
+    match kind {
+        Kind::Stream(content) => Totals {
+            entries: 1,
+            mini: mini_of(content),
+            long: long_of(version, content),
+        },
+        Kind::Storage { number, .. } => Totals {
+            entries: 1,
+            mini: 0,
+            long: 0,
+        }
+        .and(totals[*number]),
+    }
+}
+
+/// What is in a storage needs so much.
+fn family_totals<B: Blob>(
+    version: Version,
+    list: &FileList<'_, B>,
+    parent: usize,
+    totals: &[Totals],
+) -> Totals
+    requires parent { parent < length list.now.storages }
+    requires many { length totals.now ≡ length list.now.storages }
+    requires known { AreKnown (sector_of version) (inside list.now.storages) (parent + 1) totals.now }
+    ensures { result ≡ totals_of (sector_of version) (inside list.now.storages parent) }
+{
+    let mut sum = NOTHING;
+    for file in list.files_in(parent) {
+        sum = sum.and(kind_totals(version, &file.kind, totals));
+    }
+    sum
+}
+
+/// What is in each storage needs so much.
+pub fn all_totals<B: Blob>(
+    alloc: Global,
+    version: Version,
+    list: &FileList<'_, B>,
+) -> Result<Vec<Totals>, NoMemory>
+    ensures many { IfOk result (λ v. vec_len v ≡ length list.now.storages) }
+    ensures known { IfOk result (λ v. AreKnown (sector_of version) (inside list.now.storages) 0 v.items) }
+{
+    let count = list.count();
+    let mut totals = Vec::new(alloc);
+    totals.resize(count, NOTHING)?;
+    for done in 0..count {
+        let parent = count - 1 - done;
+        let sum = family_totals(version, list, parent, &totals);
+        totals[parent] = sum;
+    }
+    Ok(totals)
+}
