@@ -1,16 +1,19 @@
-# The whole set-up on a machine with the kit: `make run` builds the program and runs the main job on the shipped sample,
-# `make test` is the gate.
+# The whole set-up on a machine with the kit: `make run` runs the main job on the shipped sample, `make test` is the gate.
 PREFIX ?= /usr/local
-PROGRAM := crates/outlook_cli/out/outlook_cli
+CRATE := crates/outlook_cli
+PROGRAM := $(CRATE)/out/outlook_cli
 
-.PHONY: build run test install
+.PHONY: run build test install
+
+# Compiled without its proofs, for a first look.
+run:
+	@mkdir -p $(CRATE)/out
+	cd $(CRATE) && rt try -- to-tnef < stdin > out/sample
+	cmp $(CRATE)/out/sample $(CRATE)/stdout
+	@echo "to-tnef wrote the $$(wc -c < $(CRATE)/stdout) bytes of $(CRATE)/stdout"
 
 build:
-	cd crates/outlook_cli && rt run -- to-tnef < stdin > /dev/null
-
-run: build
-	$(PROGRAM) to-tnef < crates/outlook_cli/stdin | cmp - crates/outlook_cli/stdout
-	@echo "to-tnef wrote the $$(wc -c < crates/outlook_cli/stdout) bytes of crates/outlook_cli/stdout"
+	cd $(CRATE) && rt run -- to-tnef < stdin > /dev/null
 
 test:
 	.ci/run
