@@ -10,7 +10,7 @@ A line of a case has the processor time of the program (user and system, the lea
 one of sha256sum, the peak of memory in MiB, and the exit code. Pairs of cases of which one has half the size of the
 other, and those that differ in order, are set against each other at the end. A case whose command or input the program
 does not know yet is marked so. Exit code 3 says that the result passes a limit of the target: so does to-tnef where
-there are more than 32,768 names, after all of the input was read.
+there are more than 32,000 names, after all of the input was read.
 """
 
 import argparse
@@ -30,7 +30,14 @@ MIB = 1 << 20
 def cases(scale):
     """Name, command and maker of the input of each case."""
     large, half, names, entries = 128 * MIB // scale, 500_000 // scale, 300_000 // scale, 200_000 // scale
-    yield "unnamed", "to-tnef", lambda: inputs.tnef_integers(32_000)
+    for order in ("rising", "random"):
+        yield f"unnamed-{order}", "to-tnef", lambda order=order: inputs.tnef_unnamed(half, order)
+    yield "few-each", "to-tnef", lambda: inputs.tnef_few_each(10_000 // scale)
+    yield "store", "to-tnef", lambda: inputs.tnef_stored(inputs.store_stream(large // 2))
+    yield "store-shuffled", "to-tnef", lambda: inputs.tnef_stored(inputs.store_stream(large // 2, True))
+    for shape, row in (("row", True), ("tree", False)):
+        yield f"store-{shape}-half", "to-tnef", lambda row=row: inputs.tnef_stored(inputs.store_entries(entries // 2, row))
+        yield f"store-{shape}", "to-tnef", lambda row=row: inputs.tnef_stored(inputs.store_entries(entries, row))
     yield "attachment", "to-tnef", lambda: inputs.tnef_attachment(large)
     for order in ("rising", "falling", "random"):
         yield f"named-{order}-half", "to-tnef", lambda order=order: inputs.tnef_named(half // 2, order)
@@ -53,7 +60,7 @@ PAIRS = [
     ("named-rising", "named-rising-half"), ("named-falling", "named-falling-half"),
     ("named-random", "named-random-half"), ("named-falling", "named-rising"), ("named-random", "named-rising"),
     ("names", "names-half"), ("stream-shuffled", "stream-in-order"), ("entries-row", "entries-row-half"),
-    ("entries-storage", "entries-storage-half"),
+    ("entries-storage", "entries-storage-half"), ("store-row", "store-row-half"), ("store-tree", "store-tree-half"),
 ]
 
 
@@ -82,10 +89,22 @@ def is_unknown(code, report):
     return code == 2 or report.startswith((b"usage", b"refused 2 NotBuilt"))
 
 
+def compared(chosen, command, source, seconds, above):
+    """The time over that of another build, and the memory above the input over its."""
+    if not chosen.against:
+        return ""
+    size = source.stat().st_size / MIB
+    before, peak, code, report = measured([chosen.against, command], source, chosen.runs)
+    if is_unknown(code, report) or not before:
+        return "  not known to the other"
+    return f"  {seconds / before:5.2f} of the time, {above / max(peak - size, 1):5.2f} of the memory above the input"
+
+
 def main():
     parser = argparse.ArgumentParser(description=__doc__.splitlines()[0])
     parser.add_argument("words", nargs="*", help="only the cases with one of these in their names")
     parser.add_argument("--program", default=PROGRAM)
+    parser.add_argument("--against", help="another build, timed in the same run")
     parser.add_argument("--runs", type=int, default=3)
     parser.add_argument("--scale", type=int, default=1, help="divides the sizes")
     parser.add_argument("--list", action="store_true")
@@ -116,7 +135,8 @@ def main():
             other = measured(["sha256sum"], source, chosen.runs)[0]
             times[name] = seconds
             ratio = seconds / other if other else 0
-            print(f"{name:22} {command:8} {size:7.1f} {seconds:8.3f} {other:7.3f} {ratio:6.2f} {peak:6.0f} {code}")
+            line = f"{name:22} {command:8} {size:7.1f} {seconds:8.3f} {other:7.3f} {ratio:6.2f} {peak:6.0f} {code}"
+            print(line + compared(chosen, command, source, seconds, peak - size), flush=True)
     for one, other in PAIRS:
         if times.get(one) and times.get(other):
             print(f"{one} / {other}: {times[one] / times[other]:.2f}")

@@ -7,6 +7,7 @@ import struct
 
 SET = bytes(range(16))
 SIGNATURE = bytes.fromhex("789f3e220100")
+STORAGE = bytes.fromhex("0b00000000000000c000000000000046")
 FREE, END, FAT, DIFAT, NONE = 0xFFFFFFFF, 0xFFFFFFFE, 0xFFFFFFFD, 0xFFFFFFFC, 0xFFFFFFFF
 
 
@@ -38,6 +39,11 @@ def named(number, value, name_set=SET):
     return struct.pack("<HH16sIII", 3, 0x8000, name_set, 0, number, value)
 
 
+def text(number, value):
+    size = len(value) + 1
+    return struct.pack("<HHII", 0x001E, number, 1, size) + value + bytes(1 + -size % 4)
+
+
 def binary(number, value):
     return struct.pack("<HHII", 0x0102, number, 1, len(value)) + value + bytes(-len(value) % 4)
 
@@ -45,6 +51,54 @@ def binary(number, value):
 def tnef_integers(count):
     """Properties without names, as many as one list of unnamed properties can have in one kind."""
     return tnef(attribute(1, 0x00069003, listed([integer(k + 1, k) for k in range(count)])))
+
+
+SINGLE = {0x0002: 4, 0x0003: 4, 0x0004: 4, 0x0005: 8, 0x0006: 8, 0x0007: 8, 0x000A: 4, 0x0014: 8, 0x0040: 8}
+SEVERAL = {0x1002: 4, 0x1003: 4, 0x1004: 4, 0x1005: 8, 0x1006: 8, 0x1007: 8, 0x1014: 8, 0x1040: 8}
+
+
+def tnef_unnamed(count, order):
+    """One list of properties without names, of all kinds of numbers, in rising or random order."""
+    kinds = sorted(list(SINGLE) + list(SEVERAL))
+    found = []
+    for k in range(count):
+        number, kind = 1 + k // len(kinds), kinds[k % len(kinds)]
+        if kind in SINGLE:
+            found.append(struct.pack("<HH", kind, number) + (k % 2).to_bytes(SINGLE[kind], "little"))
+        else:
+            found.append(struct.pack("<HHI", kind, number, 1) + (k % 2).to_bytes(SEVERAL[kind], "little"))
+    if order == "random":
+        random.Random(5).shuffle(found)
+    return tnef(attribute(1, 0x00069003, listed(found)))
+
+
+def tnef_few_each(rows):
+    """Recipients with four unnamed properties each."""
+    row = listed([integer(0x0C15, 1), text(0x3001, b"A. Recipient"), text(0x3002, b"SMTP"), text(0x3003, b"a@example.org")])
+    table = struct.pack("<I", rows) + row * rows
+    return tnef(attribute(1, 0x00069004, table), attribute(1, 0x00069003, listed([integer(0x0017, 1)])))
+
+
+def tnef_stored(file):
+    """An attachment that holds an OLE store, as this compound file."""
+    rendering = struct.pack("<HIHHI", 1, 0xFFFFFFFF, 0, 0, 0)
+    value = STORAGE + file
+    held = struct.pack("<HHII", 0x000D, 0x3701, 1, len(value)) + value + bytes(-len(value) % 4)
+    return tnef(
+        attribute(1, 0x00069003, listed([integer(0x0017, 1)])),
+        attribute(2, 0x00069002, rendering),
+        attribute(2, 0x00069005, listed([held])),
+    )
+
+
+def store_stream(size, shuffled=False):
+    """A compound file with one stream of so many bytes."""
+    return compound(Entry("Root Entry", children=[Entry("contents", noise(size))]), shuffled)
+
+
+def store_entries(count, row):
+    """A compound file with so many streams, all empty, each linked to the right of the one before, or as a tree."""
+    return compound(Entry("Root Entry", children=[Entry(f"x{k:06}", b"") for k in range(count)], row=row))
 
 
 def tnef_attachment(size):
