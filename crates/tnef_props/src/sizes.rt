@@ -2,7 +2,7 @@
 ghost use Rattle.std.specs.Prelude.{◌≡◌, ◌+◌, ◌*◌, ◌<◌, ◌≤◌, ℕ, List, Option, All, length, flat_map};
 ghost use Rattle.std.specs.Option.{option_map};
 ghost use Rattle.carrier_model.specs.Keys as keys;
-ghost use Rattle.carrier_model.specs.TnefCanonical as canon;
+ghost use Rattle.tnef_model.specs.TnefCanonical as canon;
 ghost use Rattle.carrier_model.specs.Totals.{capped};
 ghost use Rattle.carrier_model.specs.Values as plain;
 ghost use Rattle.prop_names.specs.Meaning.{key_of, name_of};

@@ -1,6 +1,6 @@
 //! Texts and their nulls.
 ghost use Rattle.std.specs.Prelude.{◌≡◌, ◌<◌, ◌≤◌, ◌^◌, ◌%◌, ℕ, List, length, IfOk, IfErr, nat_eq};
-ghost use Rattle.carrier_model.specs.TnefLists as lists;
+ghost use Rattle.tnef_model.specs.TnefLists as lists;
 ghost use Rattle.prop_values.specs.Kinds.{kind_number};
 ghost use Rattle.tnef_props.specs.Steps.{Takes, Refuses};
 
@@ -55,7 +55,7 @@ fn is_zero(bytes: &[u8]) -> bool
 }
 
 /// A text without its null, or bytes.
-#[tactic(auto, unfolding(carrier_model::specs::TnefLists::text))]
+#[tactic(auto, unfolding(tnef_model::specs::TnefLists::text))]
 pub fn text<'a>(from: Rest<'a>, kind: Kind) -> Result<(&'a [u8], Rest<'a>), Stop>
     ensures found { IfOk result (λ x. Takes (lists.text (kind_number kind)) from.entry x.0.now x.1) }
     ensures fault { IfErr result (Refuses (lists.text (kind_number kind)) from.entry) }

@@ -1,6 +1,6 @@
 //! Values of properties in a list.
 ghost use Rattle.std.specs.Prelude.{◌≡◌, ◌⊎◌, ◌+◌, ◌*◌, ◌<◌, ◌≤◌, ◌^◌, ℕ, List, length, IfOk, IfErr, true, All};
-ghost use Rattle.carrier_model.specs.TnefLists as lists;
+ghost use Rattle.tnef_model.specs.TnefLists as lists;
 ghost use Rattle.carrier_model.specs.Values as plain;
 ghost use Rattle.prop_values.specs.Kinds.{kind_number};
 ghost use Rattle.tnef_props.specs.Steps.{Takes, Refuses};
@@ -44,7 +44,7 @@ fn bits_in(kind: Kind, bytes: &[u8]) -> u64
 }
 
 /// A count, and so many numbers of a width in bytes.
-#[tactic(auto, unfolding(carrier_model::specs::TnefLists::many, carrier_model::specs::TnefLists::numbers_of))]
+#[tactic(auto, unfolding(tnef_model::specs::TnefLists::many, tnef_model::specs::TnefLists::numbers_of))]
 fn numbers_from<'a>(
     alloc: Global,
     from: Rest<'a>,
@@ -67,7 +67,7 @@ fn numbers_from<'a>(
 }
 
 /// A count, and so many GUIDs.
-#[tactic(auto, unfolding(carrier_model::specs::TnefLists::many))]
+#[tactic(auto, unfolding(tnef_model::specs::TnefLists::many))]
 fn guids_from<'a>(alloc: Global, from: Rest<'a>) -> Result<(Guids, Rest<'a>), Stop>
     ensures found { IfOk result (λ x. Takes (lists.many (lists.padded 16)) from.entry x.0 x.1) }
     ensures fit { IfOk result (λ x. All (λ g. length g ≡ 16) x.0) }
@@ -96,7 +96,7 @@ fn guid_value<'a>(from: Rest<'a>) -> Result<(Guid, Rest<'a>), Stop>
 }
 
 /// A count, and so many texts of a kind.
-#[tactic(auto, unfolding(carrier_model::specs::TnefLists::many))]
+#[tactic(auto, unfolding(tnef_model::specs::TnefLists::many))]
 fn parts_from<'a>(
     alloc: Global,
     from: Rest<'a>,

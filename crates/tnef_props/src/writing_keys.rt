@@ -2,7 +2,7 @@
 ghost use Rattle.std.specs.Prelude.{◌≡◌, ◌≤◌, [], ◌∷◌, ◌++◌, length, Contains};
 ghost use Rattle.carrier_model.specs.Keys.{IsKey, IsName};
 ghost use Rattle.carrier_model.specs.Bytes.{le32 as model_le32};
-ghost use Rattle.carrier_model.specs.TnefCanonical as canon;
+ghost use Rattle.tnef_model.specs.TnefCanonical as canon;
 ghost use Rattle.prop_names.specs.Meaning.{key_of, name_of};
 ghost use Rattle.tnef_props.specs.Summed.{Sums};
 ghost use Rattle.tnef_props.specs.Named.{label_field, HasKey};
