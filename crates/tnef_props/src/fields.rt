@@ -1,6 +1,7 @@
 //! Fields of a property list, one after another.
 ghost use Rattle.std.specs.Prelude.{◌≡◌, ◌+◌, ◌≤◌, ℕ, List, length, IfOk, IfErr};
 ghost use Rattle.tnef_model.specs.TnefLists as lists;
+ghost use Rattle.carrier_model.specs.Bytes as octets;
 ghost use Rattle.tnef_props.specs.Steps.{Takes, Refuses};
 
 use crate::object::Object;
@@ -39,8 +40,8 @@ pub fn word<'a>(from: Rest<'a>) -> Result<(u32, Rest<'a>), Stop>
 
 /// Passes over what is missing to a multiple of four behind n bytes.
 pub fn skip_padding<'a>(from: Rest<'a>, n: usize) -> Result<Rest<'a>, Stop>
-    ensures found { IfOk result (λ to. (x : List ℕ) × Takes (lists.raw (lists.pad4 n)) from.entry x to) }
-    ensures fault { IfErr result (Refuses (lists.raw (lists.pad4 n)) from.entry) }
+    ensures found { IfOk result (λ to. (x : List ℕ) × Takes (lists.raw (octets.pad4 n)) from.entry x to) }
+    ensures fault { IfErr result (Refuses (lists.raw (octets.pad4 n)) from.entry) }
 {
     let (_, rest) = raw(from, pad4(n as u64) as usize)?;
     Ok(rest)
