@@ -8,7 +8,7 @@ use Rattle.std.proofs.lemmas.List.{length-append}
 use Rattle.carrier_model.specs.FileTrees as trees
 use Rattle.carrier_model.specs.FileTrees.{FileTree, sibling_cmp, with_stream, with_storage, sorted, entries_in}
 use Rattle.carrier_model.specs.Layout.{Slot, Plan, is_long, pieces, long_streams, slots_of, slots_from, plan_of, layout, file_bytes, header_bytes, table_of, mini_table_of, difat_bytes, directory_bytes, words_bytes, mini_stream_bytes, long_bytes, links_of_siblings, sibling_numbers}
-use Rattle.carrier_model.specs.ReadBack.{StreamsFit}
+use Rattle.carrier_model.specs.LayoutHolds.{StreamsFit}
 use Rattle.carrier_model.specs.Sorted.{choose}
 use Rattle.carrier_model.specs.Bytes.{MOST_BYTES}
 use Rattle.carrier_model.proofs.ChildLaws.{each-split}

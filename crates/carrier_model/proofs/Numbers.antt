@@ -1,11 +1,11 @@
 -- Little-endian numbers at the front of bytes.
-use Rattle.std.proofs.Common.{◌≡◌, ℕ, ◌+◌, ◌<◌, ◌≤◌, ◌^◌, List, ◌++◌, length, take, drop, refl, sym, ap, ◌∙◌, arith, inl, inr}
-use Rattle.std.specs.Int.{w16, w32, from_le_bytes}
+use Rattle.std.proofs.Common.{◌≡◌, ℕ, ◌+◌, ◌<◌, ◌≤◌, ◌^◌, List, ◌++◌, length, take, drop, refl, sym, ap, ◌∙◌, arith, inl, inr, zero, suc, ◌*◌, [], ◌∷◌}
+use Rattle.std.specs.Int.{w16, w32, from_le_bytes, w64, to_le_bytes}
 use Rattle.std.specs.Prelude.{sum}
 use Rattle.std.proofs.lemmas.List.{take_at, length-take, get_or-drop, get_or-take, get_or_past, take-append-drop}
 use Rattle.std.proofs.lemmas.Bool.{cases_lt}
 use Rattle.std.proofs.lemmas.Nat.{le_bytes_2, le_bytes_4, from_le_bytes-to_le_bytes_2, from_le_bytes-to_le_bytes_4, mod_below}
-use Rattle.carrier_model.specs.Bytes.{AllBytes, number16, number32, le16, le32, sum16}
+use Rattle.carrier_model.specs.Bytes.{AllBytes, number16, number32, le16, le32, sum16, le_number}
 
 pub AllBytes-drop : (n : ℕ) (bytes : List ℕ) → AllBytes bytes → AllBytes (drop n bytes)
 AllBytes-drop n bytes h i = rw get_or-drop (h (n + i))
@@ -40,3 +40,24 @@ number16-front bytes le h = sym (ap (λ (z : List ℕ). z ++ drop 2 bytes) (le16
 
 pub sum16-below : (bytes : List ℕ) → sum16 bytes < 2 ^ 16
 sum16-below bytes = mod_below (sum bytes) 65536 (omega arith)
+
+pub le16_number : (n : ℕ) → n < 65536 → le_number (le16 n) ≡ n
+le16_number n lt = omega arith
+
+pub le32_number : (n : ℕ) → n < 2 ^ 32 → le_number (le32 n) ≡ n
+le32_number n lt = omega arith
+
+pub le64_number : (n : ℕ) → n < 2 ^ 64 → le_number (to_le_bytes w64 n) ≡ n
+le64_number n lt = omega arith
+
+-- how many numbers so many bytes have
+abbrev pub top : ℕ → ℕ
+top zero = 1
+top (suc k) = 256 * top k
+
+pub number_below : (s : List ℕ) → AllBytes s → le_number s < top (length s)
+number_below [] h = omega arith
+number_below (b ∷ s) h =
+    let here : b < 256 = h 0 in
+    let rest = number_below s (λ i. h (suc i)) in
+    omega (arith, rest)

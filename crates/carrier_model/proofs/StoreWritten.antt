@@ -5,9 +5,8 @@ use Rattle.carrier_model.specs.Bytes.{MOST_BYTES}
 use Rattle.carrier_model.specs.FileTrees as trees
 use Rattle.carrier_model.specs.FileTrees.{FileTree, file_names, storage_depth, sorted, Store}
 use Rattle.carrier_model.specs.Files.{Children, none, storage, stream, Files}
-use Rattle.carrier_model.specs.LayoutHolds.{MayBeWrittenAt, MayBeWritten}
+use Rattle.carrier_model.specs.LayoutHolds.{MayBeWrittenAt, MayBeWritten, StreamsFit}
 use Rattle.carrier_model.specs.Lookups.{same_name, stream_named}
-use Rattle.carrier_model.specs.ReadBack.{StreamsFit}
 use Rattle.carrier_model.specs.Stores.{PROPERTIES, has_stream, AreMembers, IsStore, bare, StoreMeans, IsStoreFile, store_bytes}
 use Rattle.carrier_model.proofs.LaidSorted.{layouts-found}
 use Rattle.carrier_model.proofs.LaidStreamsFit.{streams-fit}

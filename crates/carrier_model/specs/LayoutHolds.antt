@@ -1,7 +1,7 @@
 -- What is laid out is found again: the statement that the file of a tree of storages and streams holds that tree with its
 -- classes, its siblings in the order in which they are written. [MS-CFB 2.6]
-use Rattle.std.specs.Prelude.{◌≡◌, ℕ, ◌+◌, ◌<◌, ◌≤◌, ◌^◌, List, length, IsTrue}
 use Rattle.carrier_model.specs.FileTrees as trees
+use Rattle.std.specs.Prelude.{◌≡◌, ℕ, ◌+◌, ◌<◌, ◌≤◌, ◌^◌, List, length, IsTrue}
 use Rattle.carrier_model.specs.FileTrees.{FileTree, sorted, file_names, IsFileName}
 use Rattle.carrier_model.specs.Files.{Files}
 use Rattle.carrier_model.specs.Holds.{AreApart, FileHolds}
@@ -35,3 +35,9 @@ pub record HoldsLaidOut (z : ℕ) (class : List ℕ) (files : FileTree) : Type 0
 -- The statement.
 abbrev pub LayoutsAreFound : Type 0
 LayoutsAreFound = (z : ℕ) (class : List ℕ) (files : FileTree) → IsTrue (is_size z) → length class ≡ 16 → MayBeWritten files → length (layout z class files) ≤ MOST_BYTES → HoldsLaidOut z class files
+
+-- no stream has more bytes than a .msg file may have
+abbrev pub StreamsFit : FileTree → Type 0
+StreamsFit trees.no_file = Unit {0}
+StreamsFit (trees.stream name bytes others) = (length bytes < 2 ^ 28) × StreamsFit others
+StreamsFit (trees.storage name class inside others) = StreamsFit inside × StreamsFit others

@@ -4,8 +4,7 @@ use Rattle.carrier_model.specs.Keys.{Name, numbered, texted, Key, id, named}
 use Rattle.carrier_model.specs.Values.{Prop, prop_cmp, IsProp}
 use Rattle.carrier_model.specs.Sorted.{IsStrictlySorted}
 use Rattle.carrier_model.specs.Stores.{IsStore}
-use Rattle.carrier_model.specs.Tree.{Message, message, Attachments, no_more, attached, Body, nothing, embedded, stored, depth}
-use Rattle.carrier_model.specs.TnefMessage.{GREATEST_LEVEL}
+use Rattle.carrier_model.specs.Tree.{Message, message, Attachments, no_more, attached, Body, nothing, embedded, stored, depth, GREATEST_LEVEL}
 
 -- the units of a name's text have 16 bits
 abbrev pub HasUnits : Name → Type 0

@@ -34,9 +34,10 @@ pub fn faults_of_changed_entries()
     ensures name { changed_opens 1728 (le16 3) ≡ Err (BAD_NAME, 1728) }
 {}
 
-/// The faults of other versions: one that is neither 3 nor 4; version 4 with the sector size of version 3; and version 4
-/// in a file that is shorter than its first sector.
+/// The high half of a size counts in version 4 alone. The faults of other versions: one that is neither 3 nor 4; version 4
+/// with the sector size of version 3; and version 4 in a file that is shorter than its first sector.
 pub fn faults_of_changed_versions()
+    ensures ignored { changed_opens 1788 (le32 1) ≡ open_file smallest }
     ensures unknown { changed_opens 26 (le16 5) ≡ Err (BAD_VERSION, 26) }
     ensures size { changed_opens 26 (le16 4) ≡ Err (BAD_HEADER, 30) }
     ensures cut { changed_opens 26 (le16 4 ++ (le16 0xFFFE ++ le16 12)) ≡ Err (BAD_FAT_COUNT, 44) }

@@ -8,7 +8,7 @@ use Rattle.carrier_model.specs.Trail.{Fault}
 use Rattle.carrier_model.specs.Outcomes.{◌>>=◌, mapped}
 use Rattle.carrier_model.specs.Chains.{member}
 use Rattle.carrier_model.specs.Entries.{Entry, entry_at}
-use Rattle.carrier_model.specs.Files.{Files, none, Opened, Claim, directory_in, first_link, all_families, names_of, stream_ids, claims_of, chain_in, tree_of, files_of, opened_of, open_of, open_file}
+use Rattle.carrier_model.specs.Files.{Files, none, Opened, Claim, directory_in, first_link, all_families, names_of, stream_ids, claims_of, chain_in, tree_of, files_of, opened_of, open_of, open_file, folded, name_of}
 use Rattle.carrier_model.specs.Links.{Directory, Links, leaf, node, ids, Linked, links_of, below_depth, below_link}
 use Rattle.carrier_model.specs.Loads.{Loaded, load_of, taken_by, stream_of}
 use Rattle.carrier_model.specs.Marks.{Marks}
@@ -23,7 +23,6 @@ use Rattle.std.specs.List.{All}
 use Rattle.std.specs.Cmp.Lexicographic.{pointwise}
 use Rattle.std.proofs.lemmas.List.Elements.{All-head, All-tail}
 use Rattle.std.proofs.Common.{Some}
-use Rattle.carrier_model.specs.Files.{folded, name_of}
 use Rattle.carrier_io.specs.Steps.{stepped}
 use Rattle.cfb_directory.specs.Families.{family_at, index_at}
 use Rattle.cfb_directory.specs.Named.{key_of, first_named, are_apart}

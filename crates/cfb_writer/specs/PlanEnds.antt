@@ -2,7 +2,7 @@
 use Rattle.std.specs.Prelude.{◌≡◌, ℕ, ◌<◌, List, length}
 use Rattle.carrier_io.specs.declared.failures.PlanEnd.{PlanEnd}
 use Rattle.carrier_io.specs.declared.failures.PlanEnd.TheVariants.{TooLarge, NoMemory}
-use Rattle.carrier_model.specs.Targets.{MOST_BYTES}
+use Rattle.carrier_model.specs.Bytes.{MOST_BYTES}
 use Rattle.carrier_model.specs.Totals.{capped}
 
 -- The file is too large, and the number is its length. Memory may want.

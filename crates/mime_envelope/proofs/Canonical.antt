@@ -10,13 +10,13 @@ use Rattle.std.specs.List.{concat, list_all}
 use Rattle.std.specs.Int.{div_ceil}
 use Rattle.base64.specs.declared.engine.general_purpose.GeneralPurpose.{GeneralPurpose}
 use Rattle.base64.proofs.EngineFacts.{decode_of_iff}
-use Rattle.carrier_model.specs.Base64.{alphabet, symbol, base64_text}
+use Rattle.mail_model.specs.Base64.{alphabet, symbol, base64_text}
 use Rattle.carrier_model.specs.Bytes.{AllBytes}
-use Rattle.carrier_model.specs.EnvelopeText.{line_end, version_line, type_line, encoding_line, disposition_line, envelope_head, text_lines, body_lines, envelope_of}
-use Rattle.carrier_model.specs.Lines.{lines, text_of, trimmed, size_before, is_word}
-use Rattle.carrier_model.specs.Entities.{body_of, continued, field, is_tnef}
-use Rattle.carrier_model.specs.Envelope.{Part, search, bad_encoding, bad_character, is_character, is_skipped, characters, envelope_text, Envelope}
-use Rattle.carrier_model.proofs.Lines.{concat-lines}
+use Rattle.mail_model.specs.EnvelopeText.{line_end, version_line, type_line, encoding_line, disposition_line, envelope_head, text_lines, body_lines, envelope_of}
+use Rattle.mail_model.specs.Lines.{lines, text_of, trimmed, size_before, is_word}
+use Rattle.mail_model.specs.Entities.{body_of, continued, field, is_tnef}
+use Rattle.mail_model.specs.Envelope.{Part, search, bad_encoding, bad_character, is_character, is_skipped, characters, envelope_text, Envelope}
+use Rattle.mail_model.proofs.Lines.{concat-lines}
 use Rattle.mime_envelope.specs.Engine.{IsStandard}
 use Rattle.mime_envelope.proofs.Coded.{encode_of-is, IsStrict-standard}
 use Rattle.mime_envelope.proofs.Readings.{text_good, same_text}

@@ -5,7 +5,7 @@ use Rattle.std.proofs.lemmas.List.{drop_more, drop_all}
 use Rattle.std.specs.List.{list_all}
 use Rattle.carrier_model.specs.Reasons.{BAD_BASE64}
 use Rattle.carrier_model.specs.Trail.{Fault}
-use Rattle.carrier_model.specs.Envelope.{bad_character, is_skipped, is_character}
+use Rattle.mail_model.specs.Envelope.{bad_character, is_skipped, is_character}
 
 skips : (at c : ℕ) (rest : List ℕ) → is_skipped c ≡ true → bad_character at (c ∷ rest) ≡ bad_character (at + 1) rest
 unfolding bad_character

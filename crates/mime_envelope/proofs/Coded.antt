@@ -9,8 +9,8 @@ use Rattle.carrier_io.specs.Known.{AppendsFront}
 use Rattle.base64.specs.declared.engine.general_purpose.GeneralPurpose.{GeneralPurpose}
 use Rattle.base64.specs.GeneralPurpose.{encode_of, IsStrict}
 use Rattle.base64.specs.Rfc4648.{encode, encode_symbols, padding_len}
-use Rattle.carrier_model.specs.Base64.{alphabet, symbol, base64_text}
-use Rattle.carrier_model.specs.EnvelopeText.{line_end}
+use Rattle.mail_model.specs.Base64.{alphabet, symbol, base64_text}
+use Rattle.mail_model.specs.EnvelopeText.{line_end}
 use Rattle.mime_envelope.specs.Engine.{IsStandard}
 
 padding_len-three : (n : ℕ) → padding_len (suc (suc (suc n))) ≡ padding_len n

@@ -2,9 +2,9 @@
 use Rattle.std.proofs.Common.{◌≡◌, ℕ, ◌-◌, ◌≤◌, false, List, [], ◌∷◌, ◌++◌, length, take, refl, sym, ap, ◌∙◌, append_assoc, arith, length-append}
 use Rattle.std.proofs.lemmas.List.{append-nil, take_at}
 use Rattle.std.specs.List.{concat}
-use Rattle.carrier_model.specs.Lines.{lines}
-use Rattle.carrier_model.specs.Entities.{part_from, is_closing, is_delimiter}
-use Rattle.carrier_model.proofs.Entities.{part_from-none, part_from-more}
+use Rattle.mail_model.specs.Lines.{lines}
+use Rattle.mail_model.specs.Entities.{part_from, is_closing, is_delimiter}
+use Rattle.mail_model.proofs.Entities.{part_from-none, part_from-more}
 
 -- these bytes are of the part, and the others are to come
 pub record PartSoFar (b bytes rest : List ℕ) : Type 0 where

@@ -2,7 +2,7 @@
 use Rattle.std.proofs.Common.{◌≡◌, ℕ, suc, ◌+◌, Bool, true, false, List, [], ◌∷◌, ◌++◌, length, take, drop, min, refl, sym, ap, ◌∙◌, append_assoc, arith}
 use Rattle.std.proofs.lemmas.List.{append-nil}
 use Rattle.std.specs.List.{prefix_len, filter}
-use Rattle.carrier_model.specs.Envelope.{characters, is_skipped}
+use Rattle.mail_model.specs.Envelope.{characters, is_skipped}
 use Rattle.std.specs.Prelude.{not}
 
 kept-step : (p : ℕ → Bool) (x : ℕ) (xs : List ℕ) (b : Bool) → p x ≡ b → filter p xs ≡ take (prefix_len p xs) xs ++ filter p (drop 1 (drop (prefix_len p xs) xs)) → filter p (x ∷ xs) ≡ take (prefix_len p (x ∷ xs)) (x ∷ xs) ++ filter p (drop 1 (drop (prefix_len p (x ∷ xs)) (x ∷ xs)))

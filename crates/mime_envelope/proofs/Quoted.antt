@@ -2,8 +2,8 @@
 use Rattle.std.proofs.Common.{◌≡◌, ℕ, ◌+◌, ◌<◌, ◌≤◌, ◌==◌, if◌then◌else◌, get_or, Bool, true, false, List, [], ◌∷◌, ◌++◌, length, drop, sym, ap, ◌∙◌, append_assoc, arith}
 use Rattle.std.proofs.lemmas.Bool.Decides.{nat_tests}
 use Rattle.std.proofs.lemmas.List.{append-nil, drop_more, drop_all}
-use Rattle.carrier_model.specs.Entities.{unquoted, quoted_size}
-use Rattle.carrier_model.proofs.Parameters.{pending, unquoted-none, unquoted-escaped, unquoted-quote, unquoted-backslash, unquoted-other, quoted_size-none, quoted_size-escaped, quoted_size-quote, quoted_size-backslash, quoted_size-other}
+use Rattle.mail_model.specs.Entities.{unquoted, quoted_size}
+use Rattle.mail_model.proofs.Parameters.{pending, unquoted-none, unquoted-escaped, unquoted-quote, unquoted-backslash, unquoted-other, quoted_size-none, quoted_size-escaped, quoted_size-quote, quoted_size-backslash, quoted_size-other}
 
 eq_true : (c n : ℕ) → c ≡ n → (c == n) ≡ true
 eq_true c n e = grind (arith, nat_tests)

@@ -4,11 +4,11 @@ use Rattle.carrier_io.specs.declared.reasons.Stop.{Stop}
 use Rattle.carrier_io.specs.declared.reasons.Stop.TheVariants as stops
 use Rattle.carrier_io.specs.Reasons.{fault_of}
 use Rattle.carrier_io.specs.Reads.{Fails, Reads, MeansOnly, FaultOnly}
-use Rattle.carrier_model.specs.Base64.{base64_text}
+use Rattle.mail_model.specs.Base64.{base64_text}
 use Rattle.carrier_model.specs.Bytes.{AllBytes}
 use Rattle.carrier_model.specs.Reasons.{NO_TNEF_PART, BAD_PADDING}
 use Rattle.carrier_model.specs.Trail.{Fault}
-use Rattle.carrier_model.specs.Envelope.{Part, search, bad_encoding, bad_character, characters, unless, text_of_part, text_found, envelope_text, Envelope, EnvelopeFault}
+use Rattle.mail_model.specs.Envelope.{Part, search, bad_encoding, bad_character, characters, unless, text_of_part, text_found, envelope_text, Envelope, EnvelopeFault}
 
 pub text_stop : (s : Stop) (bytes : List ℕ) → Fails {Y = Option Part} s (search 16 0 bytes) → Fails {Y = ℕ × List ℕ} s (envelope_text bytes)
 unfolding envelope_text

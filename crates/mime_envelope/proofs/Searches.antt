@@ -7,11 +7,11 @@ use Rattle.carrier_io.specs.Reasons.{fault_of}
 use Rattle.carrier_io.specs.Reads.{Fails}
 use Rattle.carrier_model.specs.Reasons.{PART_TOO_DEEP, MISSING_CLOSE}
 use Rattle.carrier_model.specs.Trail.{Fault}
-use Rattle.carrier_model.specs.Lines.{lines}
-use Rattle.carrier_model.specs.Entities.{body_of, field, is_tnef, is_multipart, boundary, is_boundary, is_closing, is_delimiter, part_from, parts}
-use Rattle.carrier_model.specs.Envelope.{Found, Part, or_else, first_of, in_parts, in_multipart, search}
-use Rattle.carrier_model.proofs.Lines.{concat-lines}
-use Rattle.carrier_model.proofs.Entities.{parts-none, parts-closing, parts-delimiter, parts-next}
+use Rattle.mail_model.specs.Lines.{lines}
+use Rattle.mail_model.specs.Entities.{body_of, field, is_tnef, is_multipart, boundary, is_boundary, is_closing, is_delimiter, part_from, parts}
+use Rattle.mail_model.specs.Envelope.{Found, Part, or_else, first_of, in_parts, in_multipart, search}
+use Rattle.mail_model.proofs.Lines.{concat-lines}
+use Rattle.mail_model.proofs.Entities.{parts-none, parts-closing, parts-delimiter, parts-next}
 use Rattle.mime_envelope.specs.Parts.{boundary_test}
 
 pub search_fault : (more at : ℕ) (bytes : List ℕ) (g : Fault) → body_of true at (lines bytes) ≡ Err g → search more at bytes ≡ Err g

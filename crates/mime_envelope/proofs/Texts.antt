@@ -5,7 +5,7 @@ use Rattle.std.proofs.lemmas.List.Sums.{suffix_len-le-length}
 use Rattle.std.proofs.lemmas.List.{length-take, take_all}
 use Rattle.std.proofs.lemmas.Bool.{cases_lt}
 use Rattle.std.specs.List.{prefix_len, suffix_len, list_all, starts_with}
-use Rattle.carrier_model.specs.Lines.{is_blank, trimmed, text_of, is_word, is_mark, size_before, before}
+use Rattle.mail_model.specs.Lines.{is_blank, trimmed, text_of, is_word, is_mark, size_before, before}
 
 pub trimmed_is : (bytes rest : List ℕ) (n end : ℕ) → n ≡ prefix_len is_blank bytes → rest ≡ drop n bytes → end ≤ length rest → suffix_len is_blank rest ≡ length rest - end → take end rest ≡ trimmed bytes
 unfolding trimmed

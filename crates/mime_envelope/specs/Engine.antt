@@ -3,7 +3,7 @@ use Rattle.std.specs.Prelude.{◌≡◌, true, false}
 use Rattle.base64.specs.declared.engine.general_purpose.GeneralPurpose.{GeneralPurpose}
 use Rattle.base64.specs.declared.engine.DecodePaddingMode.TheVariants.{RequireCanonical}
 use Rattle.base64.specs.GeneralPurpose.{engine_symbols, engine_padding, engine_config, IsConfig}
-use Rattle.carrier_model.specs.Base64.{alphabet}
+use Rattle.mail_model.specs.Base64.{alphabet}
 
 -- the standard characters, `=`, full padding, and no trailing bits
 abbrev pub IsStandard : GeneralPurpose → Type 0

@@ -3,8 +3,8 @@ use Rattle.std.specs.Prelude.{ℕ, Bool, if◌then◌else◌, List, Option, Some
 use Rattle.std.specs.List.{concat}
 use Rattle.carrier_model.specs.Reasons.{BAD_BOUNDARY}
 use Rattle.carrier_model.specs.Trail.{Fault}
-use Rattle.carrier_model.specs.Entities.{is_boundary, parts, part_from}
-use Rattle.carrier_model.specs.Envelope as envelope
+use Rattle.mail_model.specs.Entities.{is_boundary, parts, part_from}
+use Rattle.mail_model.specs.Envelope as envelope
 use Rattle.mime_envelope.specs.declared.part.Part.{Part}
 use Rattle.mime_envelope.specs.Views.{field_view}
 

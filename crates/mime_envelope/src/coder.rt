@@ -1,7 +1,7 @@
 //! base64 with the standard alphabet and full padding.
 ghost use Rattle.std.specs.Prelude.{◌≡◌, ℕ, ◌+◌, ◌*◌, ◌/◌, ◌≤◌, List, take, length, IfOk, IfSome, IfNone};
 ghost use Rattle.carrier_model.specs.Bytes.{AllBytes};
-ghost use Rattle.carrier_model.specs.Base64.{base64_text};
+ghost use Rattle.mail_model.specs.Base64.{base64_text};
 ghost use Rattle.mime_envelope.specs.Engine.{IsStandard};
 
 use base64::DecodeAllocError;

@@ -1,8 +1,8 @@
 //! The header of a mail entity.
 ghost use Rattle.std.specs.Prelude.{◌≡◌, ℕ, ◌+◌, ◌<◌, ◌≤◌, ◌^◌, ◌++◌, List, length, true, IfOk, MatchResult, Ok, Err};
 ghost use Rattle.carrier_io.specs.Reasons.{fault_of};
-ghost use Rattle.carrier_model.specs.Lines as text;
-ghost use Rattle.carrier_model.specs.Entities as entity;
+ghost use Rattle.mail_model.specs.Lines as text;
+ghost use Rattle.mail_model.specs.Entities as entity;
 ghost use Rattle.mime_envelope.specs.Views.{field_view};
 
 use crate::text::{behind, find, is_blank, is_word, split_line, without_end};

@@ -1,8 +1,8 @@
 //! Laws about envelopes.
 ghost use Rattle.std.specs.Prelude.{◌≡◌, ℕ, List};
 ghost use Rattle.carrier_model.specs.Bytes.{AllBytes};
-ghost use Rattle.carrier_model.specs.Envelope.{Envelope};
-ghost use Rattle.carrier_model.specs.EnvelopeText.{envelope_of};
+ghost use Rattle.mail_model.specs.Envelope.{Envelope};
+ghost use Rattle.mail_model.specs.EnvelopeText.{envelope_of};
 
 use crate::coder::Coder;
 

@@ -17,7 +17,7 @@ pub struct Marks {
 
 impl Marks {
     ghost use Rattle.std.specs.Prelude.{IfOk};
-    ghost use Rattle.carrier_model.specs.Entities as entity;
+    ghost use Rattle.mail_model.specs.Entities as entity;
 
     pub fn new(alloc: Global, boundary: Vec<u8>) -> Result<Marks, NoMemory>
         ensures { IfOk result (λ m. m.boundary.items ≡ boundary.items) }

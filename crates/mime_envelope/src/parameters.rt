@@ -1,7 +1,7 @@
 //! The Content-Type field's value.
 ghost use Rattle.std.specs.Prelude.{◌≡◌, ℕ, ◌+◌, ◌≤◌, List, length, map, IfOk};
-ghost use Rattle.carrier_model.specs.Lines as text;
-ghost use Rattle.carrier_model.specs.Entities as entity;
+ghost use Rattle.mail_model.specs.Lines as text;
+ghost use Rattle.mail_model.specs.Entities as entity;
 ghost use Rattle.mime_envelope.specs.Views.{text_view};
 
 use crate::text::{before, behind, count_blanks, find, is_word, same_word, trim};

@@ -1,8 +1,8 @@
 //! The parts of a multipart.
 ghost use Rattle.std.specs.Prelude.{◌≡◌, ℕ, ◌≤◌, List, length, take};
 ghost use Rattle.std.specs.List.{concat, list_any};
-ghost use Rattle.carrier_model.specs.Lines as text;
-ghost use Rattle.carrier_model.specs.Entities as entity;
+ghost use Rattle.mail_model.specs.Lines as text;
+ghost use Rattle.mail_model.specs.Entities as entity;
 
 use crate::marks::Marks;
 use crate::text::split_line;

@@ -3,7 +3,7 @@ ghost use Rattle.std.specs.Prelude.{◌≡◌, ℕ, ◌+◌, ◌<◌, ◌≤◌,
 ghost use Rattle.std.specs.List.{prefix_len, list_all};
 ghost use Rattle.carrier_io.specs.Reads.{Gives, Reads};
 ghost use Rattle.carrier_io.specs.Reasons.{refusal};
-ghost use Rattle.carrier_model.specs.Envelope as envelope;
+ghost use Rattle.mail_model.specs.Envelope as envelope;
 ghost use Rattle.mime_envelope.specs.Parts.{part_view};
 
 use crate::coder::Coder;

@@ -2,10 +2,10 @@
 ghost use Rattle.std.specs.Prelude.{◌≡◌, ℕ, ◌+◌, ◌<◌, ◌≤◌, ◌∷◌, ◌++◌, List, length, take, drop};
 ghost use Rattle.std.specs.List.{prefix_len, suffix_len};
 ghost use Rattle.std.specs.Str.{str_eq_ignore_ascii_case};
-ghost use Rattle.carrier_model.specs.Lines as text;
+ghost use Rattle.mail_model.specs.Lines as text;
 
 /// How many bytes stand before the first such byte, or in all.
-#[tactic(auto, unfolding(carrier_model::specs::Lines::size_before))]
+#[tactic(auto, unfolding(mail_model::specs::Lines::size_before))]
 pub fn find(byte: u8, bytes: &[u8]) -> usize
     ensures value { result ≡ text.size_before byte bytes.now }
     ensures within { result ≤ length bytes.now }
@@ -47,7 +47,7 @@ pub fn split_line(bytes: &[u8]) -> (&[u8], &[u8])
 }
 
 /// A line without its end.
-#[tactic(auto, unfolding(carrier_model::specs::Lines::text_of))]
+#[tactic(auto, unfolding(mail_model::specs::Lines::text_of))]
 pub fn without_end(line: &[u8]) -> &[u8]
     ensures { result.now ≡ text.text_of line.now }
 {
@@ -101,7 +101,7 @@ pub fn same_word(word: &[u8], bytes: &[u8]) -> bool
 }
 
 /// Whether the text, without the blanks around it, is this word; letters in either case.
-#[tactic(auto, unfolding(carrier_model::specs::Lines::is_word))]
+#[tactic(auto, unfolding(mail_model::specs::Lines::is_word))]
 pub fn is_word(word: &[u8], bytes: &[u8]) -> bool
     ensures { result ≡ text.is_word word.now bytes.now }
 {
@@ -109,7 +109,7 @@ pub fn is_word(word: &[u8], bytes: &[u8]) -> bool
 }
 
 /// Whether the line is this mark, and then only blanks.
-#[tactic(auto, unfolding(carrier_model::specs::Lines::is_mark))]
+#[tactic(auto, unfolding(mail_model::specs::Lines::is_mark))]
 pub fn is_mark(mark: &[u8], line: &[u8]) -> bool
     ensures { result ≡ text.is_mark mark.now line.now }
 {

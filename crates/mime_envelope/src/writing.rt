@@ -1,8 +1,8 @@
 //! Writing the canonical envelope.
 ghost use Rattle.std.specs.Prelude.{◌≡◌, ℕ, ◌≤◌, ◌<◌, ◌++◌, List, length};
 ghost use Rattle.carrier_io.specs.Known.{Writes};
-ghost use Rattle.carrier_model.specs.Base64.{base64_text};
-ghost use Rattle.carrier_model.specs.EnvelopeText.{line_end, body_lines, envelope_of};
+ghost use Rattle.mail_model.specs.Base64.{base64_text};
+ghost use Rattle.mail_model.specs.EnvelopeText.{line_end, body_lines, envelope_of};
 
 use crate::coder::Coder;
 use carrier_io::{Failed, Sink, Writing, write_pieces};

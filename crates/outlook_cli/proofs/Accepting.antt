@@ -6,12 +6,13 @@ use Rattle.carrier_io.specs.Reasons.{fault_of}
 use Rattle.carrier_io.specs.Reads.{Reads, FaultOnly}
 use Rattle.carrier_io.proofs.Sides.{reads_ok, reads_fault}
 use Rattle.carrier_model.specs.Reasons.{NOT_BUILT, NOT_A_CARRIER, INPUT_TOO_LONG}
-use Rattle.carrier_model.specs.Jobs.{is_compound, is_signed}
-use Rattle.carrier_model.specs.Targets.{MOST_BYTES}
-use Rattle.carrier_model.specs.Jobs.{Accepts, FaultOf}
-use Rattle.carrier_model.specs.TnefMessage.{Meaning, TnefFault, message_within, GREATEST_LEVEL}
+use Rattle.job_model.specs.Jobs.{is_compound, is_signed, Accepts, FaultOf}
+use Rattle.carrier_model.specs.Bytes.{MOST_BYTES}
+use Rattle.carrier_model.specs.Meanings.{Meaning}
+use Rattle.tnef_model.specs.TnefMessage.{TnefFault, message_within}
+use Rattle.carrier_model.specs.Tree.{GREATEST_LEVEL}
 use Rattle.carrier_model.specs.Trail.{Fault}
-use Rattle.carrier_model.proofs.Jobs.{accept_exact}
+use Rattle.job_model.proofs.Jobs.{accept_exact}
 
 refuses : (bytes : List ℕ) (g : Fault) → FaultOf bytes g → FaultOnly (Accepts bytes) (FaultOf bytes) g
 refuses bytes g f = let exact = accept_exact bytes in reads_fault (Accepts bytes) (FaultOf bytes) g exact.single exact.apart f

@@ -1,18 +1,18 @@
 -- The three answers that there are for a job.
 use Rattle.std.proofs.Common.{◌≡◌, ℕ, ◌<◌, ◌≤◌, List, [], length, Option, Some, None, refl, sym, ap, ◌∙◌}
 use Rattle.std.specs.Prelude.{IfSome}
-use Rattle.carrier_model.specs.Bytes.{AllBytes}
+use Rattle.carrier_model.specs.Bytes.{AllBytes, MOST_BYTES}
 use Rattle.carrier_model.specs.Limits as limits
 use Rattle.carrier_model.specs.Limits.{first_limit, tnef_limits, too_large}
-use Rattle.carrier_model.specs.Targets.{MOST_BYTES, passed_size}
-use Rattle.carrier_model.specs.TnefCanonical.{tnef_of}
-use Rattle.carrier_model.specs.Jobs.{Accepts, FaultOf}
-use Rattle.carrier_model.specs.TnefMessage.{Meaning, GREATEST_LEVEL}
+use Rattle.job_model.specs.Targets.{passed_size}
+use Rattle.tnef_model.specs.TnefCanonical.{tnef_of}
+use Rattle.job_model.specs.Jobs.{Accepts, FaultOf}
+use Rattle.carrier_model.specs.Meanings.{Meaning}
+use Rattle.carrier_model.specs.Tree.{GREATEST_LEVEL, Message}
 use Rattle.carrier_model.specs.Totals.{capped}
-use Rattle.carrier_model.specs.Tree.{Message}
-use Rattle.carrier_model.proofs.CanonicalTnef.{tree_within}
-use Rattle.carrier_model.proofs.ReadTnef.{carrier_is_tree}
-use Rattle.carrier_model.proofs.TnefMessage.{message_exact}
+use Rattle.job_model.proofs.WithinLimits.{tree_within}
+use Rattle.tnef_model.proofs.ReadTnef.{carrier_is_tree}
+use Rattle.tnef_model.proofs.TnefMessage.{message_exact}
 use Rattle.carrier_model.proofs.Messages.{first_found, first_later, is_passed, isnt_passed}
 use Rattle.msg_tree.specs.Limiting.{limit_of}
 use Rattle.msg_tree.specs.declared.target_limits.Limit.{Limit}

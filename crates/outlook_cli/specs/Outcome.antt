@@ -4,12 +4,13 @@ use Rattle.std.specs.Io.KnownBytes.{Appends}
 use Rattle.carrier_io.specs.Known.{AppendsFront}
 use Rattle.carrier_io.specs.Reads.{MeansOnly, FaultOnly}
 use Rattle.carrier_io.specs.Reasons.{fault_of}
-use Rattle.carrier_model.specs.Commands.{to_tnef}
+use Rattle.job_model.specs.Commands.{to_tnef}
 use Rattle.carrier_model.specs.Limits as limits
-use Rattle.carrier_model.specs.Targets.{passed_limit}
-use Rattle.carrier_model.specs.TnefCanonical.{tnef_of}
-use Rattle.carrier_model.specs.Jobs.{Accepts, FaultOf}
-use Rattle.carrier_model.specs.TnefMessage.{Meaning, TnefCarrier}
+use Rattle.job_model.specs.Targets.{passed_limit}
+use Rattle.tnef_model.specs.TnefCanonical.{tnef_of}
+use Rattle.job_model.specs.Jobs.{Accepts, FaultOf}
+use Rattle.carrier_model.specs.Meanings.{Meaning}
+use Rattle.tnef_model.specs.TnefMessage.{TnefCarrier}
 use Rattle.carrier_model.specs.Tree.{Message}
 use Rattle.msg_tree.specs.Limiting.{limit_of}
 use Rattle.outlook_cli.specs.declared.status.Status.{Status}

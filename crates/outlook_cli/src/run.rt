@@ -1,10 +1,9 @@
 ghost use Rattle.std.specs.Prelude.{◌≡◌, ◌↔◌, ℕ, Some, None, IfSome};
 ghost use Rattle.std.specs.Io.KnownBytes.{IsAtEnd};
 ghost use Rattle.carrier_io.specs.Causes.{Rose};
-ghost use Rattle.carrier_model.specs.Jobs.{IsJob};
+ghost use Rattle.job_model.specs.Jobs.{IsJob, Accepts, FaultOf};
 ghost use Rattle.carrier_model.specs.Limits as limits;
-ghost use Rattle.carrier_model.specs.Jobs.{Accepts, FaultOf};
-ghost use Rattle.carrier_model.specs.TnefMessage.{Meaning};
+ghost use Rattle.carrier_model.specs.Meanings.{Meaning};
 ghost use Rattle.outlook_cli.specs.Words.{texts};
 ghost use Rattle.outlook_cli.specs.Report.{Reports, line_of};
 ghost use Rattle.outlook_cli.specs.Outcome.{Tells, WritesNothing, IsDone, IsUnfit, IsRefused, stream_limit};

@@ -2,9 +2,9 @@
 ghost use Rattle.std.specs.Prelude.{◌≡◌, ◌≤◌, length};
 ghost use Rattle.carrier_io.specs.Causes.{Rose};
 ghost use Rattle.carrier_io.specs.Reads.{Reads};
-ghost use Rattle.carrier_model.specs.Jobs as jobs;
-ghost use Rattle.carrier_model.specs.Targets.{MOST_BYTES};
-ghost use Rattle.carrier_model.specs.Jobs.{Accepts, FaultOf};
+ghost use Rattle.job_model.specs.Jobs as jobs;
+ghost use Rattle.carrier_model.specs.Bytes.{MOST_BYTES};
+ghost use Rattle.job_model.specs.Jobs.{Accepts, FaultOf};
 ghost use Rattle.msg_tree.specs.Whole.{plain_of};
 ghost use Rattle.outlook_cli.specs.Outcome.{Puts, Tells, WritesNothing};
 ghost use Rattle.tnef_message.specs.Views.{meaning_in};

@@ -1,6 +1,6 @@
 ghost use Rattle.std.specs.Prelude.{◌≡◌, ◌↔◌, IsSome, IfOk, drop};
 ghost use Rattle.std.specs.Vec.Iter.{into_iter_items};
-ghost use Rattle.carrier_model.specs.Jobs.{IsJob};
+ghost use Rattle.job_model.specs.Jobs.{IsJob};
 ghost use Rattle.outlook_cli.specs.Words.{texts};
 
 use std::alloc::{AllocError, Global};

@@ -5,7 +5,7 @@ use Rattle.jiff_core.specs.Date.{epoch_day, IsYmd}
 use Rattle.jiff_core.specs.declared.civil.date.Date.{Date}
 use Rattle.jiff_core.proofs.CalendarLemmas.{day_count-day_of_year, day_count-next_year, days_from_civil-day_count}
 use Rattle.jiff_core.proofs.SignedLemmas.{signed_arith, signed_casts}
-use Rattle.carrier_model.specs.Moments.{days_of_years, days_of_months, month_days, day_number}
+use Rattle.tnef_model.specs.Moments.{days_of_years, days_of_months, month_days, day_number}
 
 years_are : (n : ℕ) → day_count (pos (1601 + n)) 1 1 ≡ day_count (pos 1601) 1 1 + days_of_years n
 unfolding days_of_years

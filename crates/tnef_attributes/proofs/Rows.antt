@@ -4,7 +4,7 @@ use Rattle.std.specs.Prelude.{◌==◌, if◌then◌else◌}
 use Rattle.std.specs.Option.{option_map}
 use Rattle.carrier_model.specs.Keys.{id}
 use Rattle.carrier_model.specs.Values.{Value, Prop}
-use Rattle.carrier_model.specs.LegacyAttributes as plain
+use Rattle.tnef_model.specs.LegacyAttributes as plain
 use Rattle.tnef_attributes.specs.Rules.{rule_among}
 
 -- the property that a value is, by the id and the rule of a row

@@ -9,8 +9,8 @@ use Rattle.carrier_io.proofs.Sides.{reads_ok, reads_fault}
 use Rattle.carrier_model.specs.Bytes.{AllBytes}
 use Rattle.carrier_model.specs.Trail.{Fault, first_fault}
 use Rattle.carrier_model.specs.Items.{Spells}
-use Rattle.carrier_model.specs.Attributes.{Attr, attrs, Attrs, AttrsFault, BodyFault, head_tests}
-use Rattle.carrier_model.proofs.Stream.{attrs_exact, from_parts}
+use Rattle.tnef_model.specs.Attributes.{Attr, attrs, Attrs, AttrsFault, BodyFault, head_tests}
+use Rattle.tnef_model.proofs.Stream.{attrs_exact, from_parts}
 
 -- the head passes, and a reader of what is behind it has answered
 pub stream_reads : {Y : Type 0} (view : Y → List Attr) (r : Result Y Stop) (at : ℕ) (bytes body : List ℕ) → AllBytes bytes → first_fault (head_tests at bytes) ≡ None → body ≡ drop 6 bytes

@@ -1,7 +1,6 @@
 -- The units of bytes, one by one.
 use Rattle.std.proofs.Common.{◌≡◌, ℕ, zero, suc, ◌+◌, ◌*◌, ◌≤◌, List, [], ◌∷◌, length, get_or, drop, arith}
-use Rattle.carrier_model.specs.Bytes.{number16}
-use Rattle.carrier_model.specs.TnefLists.{units_of}
+use Rattle.carrier_model.specs.Bytes.{number16, units_of}
 
 pub unit_at : (k m : ℕ) (b : List ℕ) → m ≡ 2 * k → m + 2 ≤ length b → number16 (drop m b) ≡ get_or (units_of b) k 0
 unit_at k zero [] e h = absurd (omega arith)

@@ -5,7 +5,7 @@ use Rattle.tnef_attributes.specs.declared.legacy.Rule.{Rule}
 use Rattle.tnef_attributes.specs.declared.legacy.Rule.TheVariants.{Class, Text, Binary, Date, Page, Position}
 use Rattle.prop_values.specs.Meaning.{value_of}
 use Rattle.prop_values.specs.declared.values.Value.{Value}
-use Rattle.carrier_model.specs.LegacyAttributes as plain
+use Rattle.tnef_model.specs.LegacyAttributes as plain
 use Rattle.carrier_model.specs.Values as values
 
 abbrev pub plain_rule : Rule → plain.Rule

@@ -24,7 +24,7 @@ pub struct Attributes<'a> {
 
 impl<'a> Model for Attributes<'a> {
     ghost use Rattle.std.specs.Prelude.{List};
-    ghost use Rattle.carrier_model.specs.Attributes.{Attr};
+    ghost use Rattle.tnef_model.specs.Attributes.{Attr};
     ghost use Rattle.tnef_attributes.specs.Views.{views};
 
     ghost Value = { List Attr };
@@ -37,7 +37,7 @@ const SIGNATURE: u32 = 0x223e_9f78;
 
 impl<'a> Attributes<'a> {
     ghost use Rattle.std.specs.Prelude.{◌≡◌, ◌+◌, ◌<◌, ◌≤◌, [], ◌∷◌, ◌++◌, length, slice_get, Some, OnOk, OnErr};
-    ghost use Rattle.carrier_model.specs.Attributes.{Attrs, AttrsFault};
+    ghost use Rattle.tnef_model.specs.Attributes.{Attrs, AttrsFault};
     ghost use Rattle.carrier_io.specs.Reads.{Reads};
     ghost use Rattle.tnef_attributes.specs.Views.{view, views};
 

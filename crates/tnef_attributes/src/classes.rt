@@ -1,6 +1,6 @@
 //! The classes of messages.
 ghost use Rattle.std.specs.Prelude.{◌≡◌, ◌<◌, length};
-ghost use Rattle.carrier_model.specs.LegacyAttributes as plain;
+ghost use Rattle.tnef_model.specs.LegacyAttributes as plain;
 
 /// The class that an older one stands for; every other class stays (MS-OXTNEF, section 2.1.3.3.1).
 pub fn class_of<'a>(old: &'a [u8]) -> &'a [u8]

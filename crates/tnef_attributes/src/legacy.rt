@@ -1,8 +1,8 @@
 //! The properties that older attributes stand for by themselves.
 ghost use Rattle.std.specs.Prelude.{◌≡◌, ◌<◌, ◌≤◌, ◌++◌, length, IfSome, Some};
 ghost use Rattle.std.specs.Option.{option_map};
-ghost use Rattle.carrier_model.specs.LegacyAttributes as plain;
-ghost use Rattle.carrier_model.specs.TnefLists.{without_null as plain_without_null};
+ghost use Rattle.tnef_model.specs.LegacyAttributes as plain;
+ghost use Rattle.carrier_model.specs.Kinds.{without_null as plain_without_null};
 ghost use Rattle.carrier_model.specs.Values.{IsValue};
 ghost use Rattle.tnef_attributes.specs.Rules.{plain_rule, plain_value, rule_among};
 

@@ -1,7 +1,7 @@
 //! One attribute behind the other, up to the end of a stream.
 ghost use Rattle.std.specs.Prelude.{◌≡◌, ◌+◌, ◌<◌, ◌≤◌, [], length, IfOk, IfErr};
 ghost use Rattle.carrier_model.specs.Trail.{first_fault};
-ghost use Rattle.carrier_model.specs.Attributes.{attrs, attr_tests, attr_len, BodyFault};
+ghost use Rattle.tnef_model.specs.Attributes.{attrs, attr_tests, attr_len, BodyFault};
 ghost use Rattle.carrier_model.specs.Items.{Begins, Spells};
 ghost use Rattle.carrier_io.specs.Reasons.{refusal};
 ghost use Rattle.carrier_io.specs.Reads.{OnFault};

@@ -2,7 +2,7 @@
 ghost use Rattle.std.specs.Prelude.{◌≡◌, ◌⊎◌, ◌∷◌, ◌++◌, ◌<◌, ◌^◌, length};
 ghost use Rattle.carrier_io.specs.Known.{Writes};
 ghost use Rattle.carrier_model.specs.Bytes as bytes;
-ghost use Rattle.carrier_model.specs.Attributes.{attr, spelling};
+ghost use Rattle.tnef_model.specs.Attributes.{attr, spelling};
 
 use crate::sums::sum16;
 use carrier_io::{Failed, Sink, le16, le32, write_parts};

@@ -8,12 +8,13 @@ use Rattle.carrier_io.specs.Reasons.{fault_of}
 use Rattle.carrier_io.specs.declared.reasons.Stop.{Stop}
 use Rattle.carrier_io.specs.declared.reasons.Stop.TheVariants as stops
 use Rattle.carrier_io.proofs.Sides.{reads_fault, reads_ok}
-use Rattle.carrier_model.proofs.TnefMessage.{message_exact}
-use Rattle.carrier_model.specs.Attributes.{Attr}
+use Rattle.tnef_model.proofs.TnefMessage.{message_exact}
+use Rattle.tnef_model.specs.Attributes.{Attr}
 use Rattle.carrier_model.specs.Grammar.{Form, Whole, choice}
-use Rattle.carrier_model.specs.LegacyAttributes.{MESSAGE_PROPS, RECIPIENTS, RENDERING, ATTACHMENT, is_message_id, is_attachment_id}
-use Rattle.carrier_model.specs.TnefLists.{PropList}
-use Rattle.carrier_model.specs.TnefMessage.{Meaning, Part, Passed, Read, content, inner_of, with_inner, body_in, or_else, body_among, has_attr, attached_by, groups, AllStand, stream, message_within}
+use Rattle.tnef_model.specs.LegacyAttributes.{MESSAGE_PROPS, RECIPIENTS, RENDERING, ATTACHMENT, is_message_id, is_attachment_id}
+use Rattle.tnef_model.specs.TnefLists.{PropList}
+use Rattle.carrier_model.specs.Meanings.{Meaning, Passed}
+use Rattle.tnef_model.specs.TnefMessage.{Part, Read, content, inner_of, with_inner, body_in, or_else, body_among, has_attr, attached_by, groups, AllStand, stream, message_within}
 use Rattle.carrier_model.specs.Tree.{Message, Body, nothing, embedded, depth, depth_in, depth_of_body, attachments_from}
 use Rattle.tnef_message.specs.Contents.{objects_at}
 use Rattle.tnef_message.proofs.Streams.{within_is}

@@ -2,10 +2,10 @@
 use Rattle.std.proofs.Common.{◌≡◌, ℕ, Bool, true, false, List, [], ◌∷◌, ◌++◌, map, Option, Some, None, refl, sym, subst, ◌∙◌}
 use Rattle.std.specs.Prelude.{All, ◌==◌, if◌then◌else◌, MatchOption, IsSomeAnd}
 use Rattle.std.specs.List.{list_any}
-use Rattle.carrier_model.specs.Attributes.{Attr}
-use Rattle.carrier_model.specs.LegacyAttributes.{MESSAGE_PROPS, RENDERING, is_message_id, is_attachment_id}
+use Rattle.tnef_model.specs.Attributes.{Attr}
+use Rattle.tnef_model.specs.LegacyAttributes.{MESSAGE_PROPS, RENDERING, is_message_id, is_attachment_id}
 use Rattle.carrier_model.specs.Reasons.{DOUBLE_ATTRIBUTE}
-use Rattle.carrier_model.specs.TnefMessage.{Read, Part, place_tests, attached_by, groups, message_by, joined}
+use Rattle.tnef_model.specs.TnefMessage.{Read, Part, place_tests, attached_by, groups, message_by, joined}
 use Rattle.carrier_model.specs.Trail.{Fault, first_fault}
 use Rattle.carrier_model.specs.Tree.{Attached, message, attachments_from}
 use Rattle.carrier_model.specs.Values.{Prop}

@@ -9,8 +9,8 @@ use Rattle.std.proofs.lemmas.List.Elements.{All-cons, filter-append, filter_map-
 use Rattle.std.proofs.lemmas.List.Folds.{list_any-append}
 use Rattle.std.proofs.lemmas.Bool.{eqb-true}
 use Rattle.carrier_model.specs.Keys.{id}
-use Rattle.carrier_model.specs.LegacyAttributes.{Row, message_rows, attachment_rows, value_by, prop_by, legacy_prop, MESSAGE_PROPS, RECIPIENTS, RENDERING, ATTACHMENT, is_message_id, is_attachment_id}
-use Rattle.carrier_model.specs.TnefMessage.{Read, props_in, recipients_in, body_in, or_else, body_among, derived as derived_of, joined, beside, attached_by, groups}
+use Rattle.tnef_model.specs.LegacyAttributes.{Row, message_rows, attachment_rows, value_by, prop_by, legacy_prop, MESSAGE_PROPS, RECIPIENTS, RENDERING, ATTACHMENT, is_message_id, is_attachment_id}
+use Rattle.tnef_model.specs.TnefMessage.{Read, props_in, recipients_in, body_in, or_else, body_among, derived as derived_of, joined, beside, attached_by, groups}
 use Rattle.carrier_model.specs.Tree.{Attached, Body, nothing, embedded}
 use Rattle.carrier_model.specs.Values.{Value, Prop}
 use Rattle.tnef_message.specs.Sections.{HasId, IsSection}

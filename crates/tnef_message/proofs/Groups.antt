@@ -7,8 +7,8 @@ use Rattle.std.proofs.lemmas.List.Elements.{filter-append}
 use Rattle.std.proofs.lemmas.List.Folds.{list_any-append}
 use Rattle.std.proofs.lemmas.List.Sums.{take_while-cons}
 use Rattle.std.proofs.lemmas.Bool.{eqb-true}
-use Rattle.carrier_model.specs.TnefMessage.{Read, has_attr, groups}
-use Rattle.carrier_model.specs.LegacyAttributes.{RENDERING}
+use Rattle.tnef_model.specs.TnefMessage.{Read, has_attr, groups}
+use Rattle.tnef_model.specs.LegacyAttributes.{RENDERING}
 use Rattle.tnef_message.specs.Drafts.{attrs_of, begins}
 
 or_false : (a : Bool) → (a || false) ≡ a

@@ -6,7 +6,7 @@ use Rattle.std.specs.declared.cmp.Ordering.TheVariants.{Equal}
 use Rattle.carrier_model.specs.Places.{IsPlace}
 use Rattle.carrier_model.specs.Sorted.{IsStrictlySorted, with_element, with_elements}
 use Rattle.carrier_model.specs.Keys.{is_id}
-use Rattle.carrier_model.specs.TnefMessage.{has_key_of}
+use Rattle.tnef_model.specs.TnefMessage.{has_key_of}
 use Rattle.tnef_message.specs.Sections.{beside_if, stays}
 use Rattle.carrier_model.specs.Values.{Prop, prop_cmp}
 use Rattle.carrier_model.proofs.Orders.{prop_total}

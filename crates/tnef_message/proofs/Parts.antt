@@ -2,12 +2,13 @@
 use Rattle.std.proofs.Common.{◌≡◌, inl, ℕ, ◌+◌, Bool, true, false, List, [], ◌∷◌, ◌++◌, map, drop, eqb, add-zero, refl, sym, ap, subst, ◌∙◌}
 use Rattle.std.specs.Prelude.{◌||◌}
 use Rattle.std.specs.List.{flat_map}
-use Rattle.carrier_model.specs.Attributes.{Attr}
+use Rattle.tnef_model.specs.Attributes.{Attr}
 use Rattle.carrier_model.specs.Grammar.{Form, Spans, Means, Whole, gives, and_then, choice}
-use Rattle.carrier_model.specs.LegacyAttributes.{MESSAGE_PROPS, RECIPIENTS, ATTACHMENT, is_message_id, is_attachment_id}
-use Rattle.carrier_model.specs.TnefLists.{PropList, prop_list, recipient_lists}
-use Rattle.carrier_model.specs.TnefMessage as plain
-use Rattle.carrier_model.specs.TnefMessage.{Meaning, Part, Passed, part, content, inner_of, with_inner}
+use Rattle.tnef_model.specs.LegacyAttributes.{MESSAGE_PROPS, RECIPIENTS, ATTACHMENT, is_message_id, is_attachment_id}
+use Rattle.tnef_model.specs.TnefLists.{PropList, prop_list, recipient_lists}
+use Rattle.tnef_model.specs.TnefMessage as plain
+use Rattle.carrier_model.specs.Meanings.{Meaning, Passed}
+use Rattle.tnef_model.specs.TnefMessage.{Part, part, content, inner_of, with_inner}
 use Rattle.carrier_model.specs.Trail.{Fault}
 use Rattle.carrier_model.proofs.Reading.{spans_seen, spans_nothing}
 

@@ -6,9 +6,9 @@ use Rattle.std.proofs.lemmas.Bool.{eqb-true}
 use Rattle.std.proofs.lemmas.List.Folds.{list_any-append}
 use Rattle.carrier_model.specs.Reasons.{NO_ATTACHMENT, DOUBLE_ATTRIBUTE}
 use Rattle.carrier_model.specs.Trail.{Fault, Test, test, first_fault}
-use Rattle.carrier_model.specs.Attributes.{Attr}
-use Rattle.carrier_model.specs.LegacyAttributes.{RENDERING, is_message_id, is_attachment_id}
-use Rattle.carrier_model.specs.TnefMessage.{Read, has_attr, place_tests}
+use Rattle.tnef_model.specs.Attributes.{Attr}
+use Rattle.tnef_model.specs.LegacyAttributes.{RENDERING, is_message_id, is_attachment_id}
+use Rattle.tnef_model.specs.TnefMessage.{Read, has_attr, place_tests}
 use Rattle.carrier_model.specs.Tree.{Attached, Body}
 use Rattle.carrier_model.specs.Values.{Prop}
 use Rattle.tnef_message.specs.Drafts.{attrs_of, begins, own_of, OneOpen, NoneYet}

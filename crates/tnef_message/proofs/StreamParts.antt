@@ -4,8 +4,8 @@ use Rattle.std.specs.List.{flat_map}
 use Rattle.std.specs.Prelude.{slice_get, Some}
 use Rattle.carrier_model.specs.Bytes.{le16, le32, sum16}
 use Rattle.carrier_model.specs.Keys.{Name, Key, id, named}
-use Rattle.carrier_model.specs.LegacyAttributes.{RECIPIENTS, ATTACHMENT}
-use Rattle.carrier_model.specs.TnefCanonical.{attribute, front, page_attribute, recipients_attribute, props_attribute, rendering_attribute, stream_of, attachments_bytes, prop_bytes, props_bytes, key_bytes, value_bytes}
+use Rattle.tnef_model.specs.LegacyAttributes.{RECIPIENTS, ATTACHMENT}
+use Rattle.tnef_model.specs.TnefCanonical.{attribute, front, page_attribute, recipients_attribute, props_attribute, rendering_attribute, stream_of, attachments_bytes, prop_bytes, props_bytes, key_bytes, value_bytes}
 use Rattle.carrier_model.specs.Totals.{capped}
 use Rattle.carrier_model.specs.Tree.{Attached, message, attachments_from}
 use Rattle.carrier_model.specs.Values.{Prop, kind_of}

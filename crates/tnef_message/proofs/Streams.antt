@@ -8,13 +8,14 @@ use Rattle.carrier_io.specs.Reads.{OnFault, Reads}
 use Rattle.carrier_io.specs.Reasons.{fault_of}
 use Rattle.carrier_io.specs.declared.reasons.Stop.{Stop}
 use Rattle.carrier_io.specs.declared.reasons.Stop.TheVariants as stops
-use Rattle.carrier_model.specs.Attributes.{Attr, Attrs, AttrsFault, attrs, spelling}
+use Rattle.tnef_model.specs.Attributes.{Attr, Attrs, AttrsFault, attrs, spelling}
 use Rattle.carrier_model.specs.Bytes.{le16, sum16}
 use Rattle.carrier_model.specs.Items.{AllGood}
 use Rattle.carrier_model.specs.Grammar.{Form, Spans, Means, Whole, gives, and_then, inside}
-use Rattle.carrier_model.specs.LegacyAttributes.{ATTACHMENT}
-use Rattle.carrier_model.specs.TnefLists.{PropList, prop_list}
-use Rattle.carrier_model.specs.TnefMessage.{Meaning, Part, Passed, Read, content, inner_of, with_inner, place_tests, Stands, AttrFails, AllStand, message_by, meaning_by, StreamMeans, MessageFails, stream, interface_tests, message_within}
+use Rattle.tnef_model.specs.LegacyAttributes.{ATTACHMENT}
+use Rattle.tnef_model.specs.TnefLists.{PropList, prop_list}
+use Rattle.carrier_model.specs.Meanings.{Meaning, Passed}
+use Rattle.tnef_model.specs.TnefMessage.{Part, Read, content, inner_of, with_inner, place_tests, Stands, AttrFails, AllStand, message_by, meaning_by, StreamMeans, MessageFails, stream, interface_tests, message_within}
 use Rattle.carrier_model.specs.Reasons.{TOO_DEEP}
 use Rattle.carrier_model.specs.Trail.{Fault, first_fault}
 use Rattle.carrier_model.specs.Tree.{Message}

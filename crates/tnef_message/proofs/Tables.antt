@@ -9,7 +9,8 @@ use Rattle.carrier_io.specs.declared.reasons.Stop.{Stop}
 use Rattle.carrier_io.proofs.Sides.{on_fault}
 use Rattle.carrier_model.specs.Grammar.{Form, Spans, Means, repeat}
 use Rattle.carrier_model.specs.Reasons.{LIST_TRUNCATED}
-use Rattle.carrier_model.specs.TnefLists.{le_number, raw, word, many, PropList, prop_list, recipient_lists}
+use Rattle.carrier_model.specs.Bytes.{le_number}
+use Rattle.tnef_model.specs.TnefLists.{raw, word, many, PropList, prop_list, recipient_lists}
 use Rattle.carrier_model.specs.Values.{Prop}
 use Rattle.carrier_model.proofs.Reading.{Continues, continues_then, continues_on, continues_repeat, fails_repeat, spans_field, spans_repeat, spans_seen}
 

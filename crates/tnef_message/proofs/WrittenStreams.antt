@@ -5,11 +5,10 @@ use Rattle.std.specs.Option.{option_map}
 use Rattle.std.specs.Result.{IsErr}
 use Rattle.std.specs.List.{flat_map}
 use Rattle.std.proofs.lemmas.List.{append-nil}
-use Rattle.carrier_model.specs.Bytes.{le32}
+use Rattle.carrier_model.specs.Bytes.{le32, pad4}
 use Rattle.carrier_model.specs.Keys.{Name, is_id}
-use Rattle.carrier_model.specs.TnefCanonical.{integer_or, bits_in, list_bytes, object_bytes, props_bytes, stream_of}
-use Rattle.carrier_model.specs.TnefLists.{pad4}
-use Rattle.carrier_model.specs.TnefMessage.{IID_MESSAGE}
+use Rattle.tnef_model.specs.TnefCanonical.{integer_or, bits_in, list_bytes, object_bytes, props_bytes, stream_of}
+use Rattle.tnef_model.specs.TnefMessage.{IID_MESSAGE}
 use Rattle.carrier_model.specs.Values.{Prop, Value, number, guid, bytes, numbers, guids, parts, IsValue, kind_of}
 use Rattle.carrier_model.proofs.Trees.{drop_at}
 use Rattle.carrier_model.specs.Tree as plain

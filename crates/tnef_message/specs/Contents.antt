@@ -1,8 +1,9 @@
 -- What the bytes of an attribute give.
 use Rattle.std.specs.Prelude.{◌≡◌, ℕ, zero, suc, ◌+◌, ◌++◌, List}
-use Rattle.carrier_model.specs.Attributes.{Attr}
+use Rattle.tnef_model.specs.Attributes.{Attr}
 use Rattle.carrier_model.specs.Grammar.{Means, Whole}
-use Rattle.carrier_model.specs.TnefMessage.{Meaning, Passed, Part, content, too_deep, behind_interface, object_with, message_within}
+use Rattle.carrier_model.specs.Meanings.{Meaning, Passed}
+use Rattle.tnef_model.specs.TnefMessage.{Part, content, too_deep, behind_interface, object_with, message_within}
 use Rattle.carrier_model.specs.Trail.{Fault}
 use Rattle.tnef_message.specs.Drafts.{Fits, plain_gift}
 use Rattle.tnef_message.specs.declared.gifts.Gift.{Gift}

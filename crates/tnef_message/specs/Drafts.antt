@@ -4,10 +4,10 @@ use Rattle.std.specs.List.{flat_map, list_any}
 use Rattle.std.specs.declared.boxed.Box.{Box}
 use Rattle.std.specs.declared.alloc.Global.{Global}
 use Rattle.std.specs.Borrow.{Bor}
-use Rattle.carrier_model.specs.Attributes.{Attr}
-use Rattle.carrier_model.specs.LegacyAttributes.{MESSAGE_PROPS, RECIPIENTS, RENDERING, ATTACHMENT, is_message_id, is_attachment_id}
-use Rattle.carrier_model.specs.TnefMessage as plain
-use Rattle.carrier_model.specs.TnefMessage.{Read, Part, has_attr, attached_by, groups, recipients_in, body_among}
+use Rattle.tnef_model.specs.Attributes.{Attr}
+use Rattle.tnef_model.specs.LegacyAttributes.{MESSAGE_PROPS, RECIPIENTS, RENDERING, ATTACHMENT, is_message_id, is_attachment_id}
+use Rattle.tnef_model.specs.TnefMessage as plain
+use Rattle.tnef_model.specs.TnefMessage.{Read, Part, has_attr, attached_by, groups, recipients_in, body_among}
 use Rattle.carrier_model.specs.Tree.{Attached, Body, nothing, embedded}
 use Rattle.carrier_model.specs.Values.{Prop}
 use Rattle.msg_tree.specs.declared.messages.Message.{Message}

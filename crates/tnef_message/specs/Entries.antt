@@ -1,8 +1,8 @@
 -- What an attribute changes.
 use Rattle.std.specs.Prelude.{◌≡◌, ℕ, List, [], ◌∷◌, ◌++◌, Option, Some, None, IsSomeAnd, MatchOption}
 use Rattle.std.specs.Option.{option_to_list}
-use Rattle.carrier_model.specs.LegacyAttributes.{legacy_prop}
-use Rattle.carrier_model.specs.TnefMessage.{joined, beside}
+use Rattle.tnef_model.specs.LegacyAttributes.{legacy_prop}
+use Rattle.tnef_model.specs.TnefMessage.{joined, beside}
 use Rattle.carrier_model.specs.Tree.{Attached, Body, nothing}
 use Rattle.carrier_model.specs.Values.{Prop}
 use Rattle.tnef_message.specs.declared.gifts.Gift.{Gift}

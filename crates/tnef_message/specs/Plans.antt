@@ -4,7 +4,7 @@ use Rattle.carrier_io.specs.declared.failures.PlanEnd.{PlanEnd}
 use Rattle.carrier_io.specs.declared.failures.PlanEnd.TheVariants.{TooLarge, NoMemory}
 use Rattle.carrier_model.specs.Keys.{Name}
 use Rattle.carrier_model.specs.Bytes.{MOST_BYTES}
-use Rattle.carrier_model.specs.TnefCanonical.{tnef_of}
+use Rattle.tnef_model.specs.TnefCanonical.{tnef_of}
 use Rattle.carrier_model.specs.Totals.{capped}
 use Rattle.carrier_model.specs.Tree.{Message, names_of}
 

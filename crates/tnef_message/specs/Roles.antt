@@ -1,6 +1,6 @@
 -- What an id stands for.
 use Rattle.std.specs.Prelude.{◌≡◌, ℕ, ◌==◌, true, false}
-use Rattle.carrier_model.specs.LegacyAttributes.{RENDERING, is_message_id, is_attachment_id}
+use Rattle.tnef_model.specs.LegacyAttributes.{RENDERING, is_message_id, is_attachment_id}
 use Rattle.tnef_message.specs.declared.roles.Role.{Role}
 use Rattle.tnef_message.specs.declared.roles.Role.TheVariants.{Message, NewAttachment, Attachment, Unknown}
 

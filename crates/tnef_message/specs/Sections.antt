@@ -3,7 +3,7 @@ use Rattle.std.specs.Prelude.{◌≡◌, ℕ, ◌==◌, ◌&&◌, Bool, true, fa
 use Rattle.std.specs.List.{flat_map, list_any}
 use Rattle.carrier_model.specs.Keys.{Key, id, named, is_id}
 use Rattle.carrier_model.specs.Values.{Prop}
-use Rattle.carrier_model.specs.TnefMessage.{Read, props_in, derived as derived_of, has_key_of}
+use Rattle.tnef_model.specs.TnefMessage.{Read, props_in, derived as derived_of, has_key_of}
 
 -- the key is an id
 abbrev pub IsIdKey : Key → Type 0

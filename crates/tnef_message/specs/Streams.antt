@@ -2,7 +2,8 @@
 use Rattle.std.specs.Prelude.{◌≡◌, ℕ, ◌++◌, List}
 use Rattle.std.specs.Borrow.{Bor}
 use Rattle.carrier_model.specs.Grammar.{Whole}
-use Rattle.carrier_model.specs.TnefMessage.{Meaning, Passed, message_within}
+use Rattle.carrier_model.specs.Meanings.{Meaning, Passed}
+use Rattle.tnef_model.specs.TnefMessage.{message_within}
 use Rattle.carrier_model.specs.Trail.{Fault}
 use Rattle.msg_tree.specs.Meaning.{tree_of}
 use Rattle.msg_tree.specs.declared.messages.Message.{Message}

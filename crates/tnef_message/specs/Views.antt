@@ -1,6 +1,6 @@
 -- What a reader accepted: the plain tree, and what was passed over.
 use Rattle.carrier_io.specs.declared.blob.Blob.{Ghosts}
-use Rattle.carrier_model.specs.TnefMessage.{Meaning}
+use Rattle.carrier_model.specs.Meanings.{Meaning}
 use Rattle.msg_tree.specs.declared.bounded.Accepted.{Accepted}
 use Rattle.msg_tree.specs.Whole.{plain_of}
 

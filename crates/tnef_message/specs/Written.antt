@@ -3,10 +3,10 @@ use Rattle.std.specs.Prelude.{ℕ, ◌++◌, List, All, Contains, Option, None, 
 use Rattle.std.specs.List.{flat_map}
 use Rattle.carrier_model.specs.Bytes.{le32}
 use Rattle.carrier_model.specs.Keys.{Name, is_id}
-use Rattle.carrier_model.specs.LegacyAttributes.{ATTACHMENT}
-use Rattle.carrier_model.specs.TnefCanonical.{attribute, bits_in, stream_of, tag_bytes, content_of, front, list_bytes, page_attribute, props_attribute, recipients_attribute, rendering_attribute}
-use Rattle.carrier_model.specs.TnefLists.{OBJECT}
-use Rattle.carrier_model.specs.TnefMessage.{IID_MESSAGE}
+use Rattle.tnef_model.specs.LegacyAttributes.{ATTACHMENT}
+use Rattle.tnef_model.specs.TnefCanonical.{attribute, bits_in, stream_of, tag_bytes, content_of, front, list_bytes, page_attribute, props_attribute, recipients_attribute, rendering_attribute}
+use Rattle.carrier_model.specs.Kinds.{OBJECT}
+use Rattle.tnef_model.specs.TnefMessage.{IID_MESSAGE}
 use Rattle.carrier_model.specs.Tree.{Message, Attached}
 use Rattle.carrier_model.specs.Values.{Prop, kind_of}
 use Rattle.tnef_message.specs.declared.filled.Content.{Content}

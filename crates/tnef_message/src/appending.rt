@@ -1,6 +1,6 @@
 //! Attributes that are appended and added up.
 ghost use Rattle.std.specs.Prelude.{◌≡◌, ◌<◌, ◌≤◌, ◌^◌, length, replicate};
-ghost use Rattle.carrier_model.specs.TnefCanonical.{attribute};
+ghost use Rattle.tnef_model.specs.TnefCanonical.{attribute};
 ghost use Rattle.tnef_props.specs.Summed.{Sums};
 
 use carrier_io::{Failed, Sink, le16, write_pieces};

@@ -3,8 +3,8 @@ ghost use Rattle.std.specs.Prelude.{◌≡◌, ◌+◌, ◌≤◌, ◌++◌, ℕ
 ghost use Rattle.std.specs.List.{flat_map};
 ghost use Rattle.carrier_io.specs.Reads.{OnFault};
 ghost use Rattle.carrier_model.specs.Grammar.{Means};
-ghost use Rattle.carrier_model.specs.LegacyAttributes as plain;
-ghost use Rattle.carrier_model.specs.TnefLists.{PropList, recipient_lists};
+ghost use Rattle.tnef_model.specs.LegacyAttributes as plain;
+ghost use Rattle.tnef_model.specs.TnefLists.{PropList, recipient_lists};
 ghost use Rattle.tnef_attributes.specs.Views.{view};
 ghost use Rattle.tnef_message.specs.Contents.{GivesPart, FailsPart};
 

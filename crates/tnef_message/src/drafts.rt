@@ -5,7 +5,7 @@ ghost use Rattle.carrier_io.specs.Reasons.{refusal};
 ghost use Rattle.carrier_model.specs.Reasons.{DOUBLE_ATTRIBUTE};
 ghost use Rattle.carrier_model.specs.Tree.{attachments_from, message};
 ghost use Rattle.carrier_model.specs.Trail.{first_fault};
-ghost use Rattle.carrier_model.specs.TnefMessage.{Read, Part, message_by, place_tests};
+ghost use Rattle.tnef_model.specs.TnefMessage.{Read, Part, message_by, place_tests};
 ghost use Rattle.msg_tree.specs.Meaning.{tree_of, list_of, attached_of};
 ghost use Rattle.tnef_attributes.specs.Views.{view};
 ghost use Rattle.tnef_message.specs.Drafts.{Fits, IsDraft, attrs_of, body_of, plain_gift};

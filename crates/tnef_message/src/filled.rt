@@ -1,7 +1,7 @@
 //! Attributes with lists of properties.
 ghost use Rattle.std.specs.Prelude.{◌≡◌, ◌+◌, ◌≤◌, ◌<◌, ◌^◌, ℕ, List, length, All, flat_map};
 ghost use Rattle.carrier_model.specs.Keys.{Name};
-ghost use Rattle.carrier_model.specs.TnefCanonical as canon;
+ghost use Rattle.tnef_model.specs.TnefCanonical as canon;
 ghost use Rattle.carrier_model.specs.Totals.{capped};
 ghost use Rattle.tnef_message.specs.Written.{content_bytes, ContentIsNamed, list_alone, table_bytes};
 ghost use Rattle.tnef_props.specs.Named.{HasNames, between};

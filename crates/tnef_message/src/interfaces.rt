@@ -1,7 +1,7 @@
 //! The interfaces of Objects in attachments. [MS-OXTNEF 2.1.3.4.2]
 ghost use Rattle.std.specs.Prelude.{◌≡◌, ◌≤◌, IfOk, bytes_eq, length, take};
 ghost use Rattle.carrier_io.specs.Reasons.{refusal};
-ghost use Rattle.carrier_model.specs.TnefMessage.{interface_tests};
+ghost use Rattle.tnef_model.specs.TnefMessage.{interface_tests};
 ghost use Rattle.carrier_model.specs.Trail.{first_fault};
 
 use carrier_io::{Fault, Reason};

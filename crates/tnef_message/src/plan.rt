@@ -24,9 +24,9 @@ pub struct TnefPlan<'t, B: Blob> {
 impl<'t, B: Blob> TnefPlan<'t, B> {
     ghost use Rattle.std.specs.Prelude.{◌≡◌, ◌≤◌, None, length, IfOk, IfErr};
     ghost use Rattle.carrier_io.specs.Known.{Writes};
-    ghost use Rattle.carrier_model.specs.TnefCanonical.{tnef_of};
+    ghost use Rattle.tnef_model.specs.TnefCanonical.{tnef_of};
     ghost use Rattle.carrier_model.specs.Limits.{first_limit, tnef_limits};
-    ghost use Rattle.carrier_model.specs.Targets as targets;
+    ghost use Rattle.carrier_model.specs.Bytes as octets;
     ghost use Rattle.carrier_model.specs.Tree.{names_of};
     ghost use Rattle.msg_tree.specs.Whole.{plain_of};
     ghost use Rattle.tnef_message.specs.Plans.{IsEndOf};
@@ -42,7 +42,7 @@ impl<'t, B: Blob> TnefPlan<'t, B> {
         requires names { names.now ≡ names_of (plain_of tree.now) }
         requires few { first_limit (tnef_limits (plain_of tree.now)) ≡ None }
         ensures value { IfOk result (λ p. tree_in p ≡ plain_of tree.now) }
-        ensures fits { IfOk result (λ _. length (tnef_of (plain_of tree.now)) ≤ targets.MOST_BYTES) }
+        ensures fits { IfOk result (λ _. length (tnef_of (plain_of tree.now)) ≤ octets.MOST_BYTES) }
         ensures end { IfErr result (IsEndOf (plain_of tree.now)) }
     {
         let size = message_size(tree.top());
@@ -72,7 +72,7 @@ impl<'t, B: Blob> TnefPlan<'t, B> {
 }
 
 impl<'t, B: Blob> Writing for TnefPlan<'t, B> {
-    ghost use Rattle.carrier_model.specs.TnefCanonical.{tnef_of};
+    ghost use Rattle.tnef_model.specs.TnefCanonical.{tnef_of};
     ghost use Rattle.tnef_message.specs.PlanViews.{tree_in};
 
     ghost text = { λ p. tnef_of (tree_in p) };

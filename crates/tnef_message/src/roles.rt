@@ -1,6 +1,6 @@
 //! What the attributes of a stream belong to, by their ids. [MS-OXTNEF 2.1.3.3]
 ghost use Rattle.std.specs.Prelude.{◌≡◌};
-ghost use Rattle.carrier_model.specs.LegacyAttributes as plain;
+ghost use Rattle.tnef_model.specs.LegacyAttributes as plain;
 ghost use Rattle.tnef_message.specs.Roles.{IsRole};
 
 /// attMsgProps: the list of a message.

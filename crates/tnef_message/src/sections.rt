@@ -2,9 +2,9 @@
 ghost use Rattle.std.specs.Prelude.{◌≡◌, ◌==◌, ◌∷◌, [], ◌++◌, All, OnOk, IfOk, filter, length, ◌<◌};
 ghost use Rattle.std.specs.Option.{option_to_list};
 ghost use Rattle.std.specs.List.{list_any};
-ghost use Rattle.carrier_model.specs.LegacyAttributes as plain;
+ghost use Rattle.tnef_model.specs.LegacyAttributes as plain;
 ghost use Rattle.carrier_model.specs.Sorted.{with_element, with_elements};
-ghost use Rattle.carrier_model.specs.TnefMessage.{joined};
+ghost use Rattle.tnef_model.specs.TnefMessage.{joined};
 ghost use Rattle.carrier_model.specs.Values.{prop_cmp};
 ghost use Rattle.tnef_message.specs.Sections.{HasId, beside_if, stays};
 

@@ -1,7 +1,7 @@
 //! How long the canonical stream of a message is. A number that is above the greatest `u64` stays there.
 ghost use Rattle.std.specs.Prelude.{◌≡◌, ℕ, List, length};
 ghost use Rattle.carrier_model.specs.Keys.{Name};
-ghost use Rattle.carrier_model.specs.TnefCanonical as canon;
+ghost use Rattle.tnef_model.specs.TnefCanonical as canon;
 ghost use Rattle.carrier_model.specs.Totals.{capped};
 ghost use Rattle.carrier_model.specs.Tree as plain;
 ghost use Rattle.msg_tree.specs.Meaning.{tree_of, attached_of};

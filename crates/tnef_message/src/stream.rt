@@ -1,8 +1,8 @@
 //! The canonical stream of a message, written as it is made.
 ghost use Rattle.std.specs.Prelude.{◌≡◌, ◌≤◌, ◌<◌, ◌^◌, ◌++◌, ◌+◌, ℕ, All, length};
-ghost use Rattle.carrier_model.specs.LegacyAttributes as ids;
-ghost use Rattle.carrier_model.specs.TnefCanonical as canon;
-ghost use Rattle.carrier_model.specs.TnefMessage.{IID_MESSAGE};
+ghost use Rattle.tnef_model.specs.LegacyAttributes as ids;
+ghost use Rattle.tnef_model.specs.TnefCanonical as canon;
+ghost use Rattle.tnef_model.specs.TnefMessage.{IID_MESSAGE};
 ghost use Rattle.carrier_model.specs.Tree as plain;
 ghost use Rattle.msg_tree.specs.Meaning.{tree_of, attached_of};
 ghost use Rattle.prop_values.specs.Meaning.{value_of};

@@ -1,8 +1,8 @@
 //! Whole streams, and the streams that lie in them. [MS-OXTNEF 2.1.3]
 ghost use Rattle.std.specs.Prelude.{◌≡◌, ◌+◌, ◌≤◌, IfOk, IfErr, length};
 ghost use Rattle.carrier_io.specs.Reads.{OnFault, Reads};
-ghost use Rattle.carrier_model.specs.LegacyAttributes as plain;
-ghost use Rattle.carrier_model.specs.TnefMessage.{TnefCarrier, TnefFault, message_within};
+ghost use Rattle.tnef_model.specs.LegacyAttributes as plain;
+ghost use Rattle.tnef_model.specs.TnefMessage.{TnefCarrier, TnefFault, message_within};
 ghost use Rattle.tnef_attributes.specs.Views.{view};
 ghost use Rattle.tnef_message.specs.Contents.{FailsPart, GivesPart, objects_at};
 ghost use Rattle.tnef_message.specs.Streams.{GivesMessage, objects_fail, stream_fails};

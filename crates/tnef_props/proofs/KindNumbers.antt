@@ -3,7 +3,7 @@ use Rattle.std.proofs.Common.{◌≡◌, ℕ, ◌-◌, ◌≤◌, Bool, true, fa
 use Rattle.std.specs.Prelude.{nat_le, ◌&&◌}
 use Rattle.std.proofs.lemmas.Bool.{ne_eqb, leb-true}
 use Rattle.carrier_model.specs.Values.{width_among, width_of, number_widths, numbers_widths, guid_widths, is_bytes_kind}
-use Rattle.carrier_model.specs.TnefLists.{is_kind}
+use Rattle.carrier_model.specs.Kinds.{is_kind}
 use Rattle.prop_values.specs.Kinds.{kind_number}
 use Rattle.prop_values.specs.declared.kinds.Kind.{Kind}
 use Rattle.prop_values.specs.declared.kinds.Kind.TheVariants.{Integer16, Integer32, Floating32, Floating64, Currency, FloatingTime, ErrorCode, Boolean, Integer64, String8, String, Time, Guid, Binary, MultipleInteger16, MultipleInteger32, MultipleFloating32, MultipleFloating64, MultipleCurrency, MultipleFloatingTime, MultipleInteger64, MultipleString8, MultipleString, MultipleTime, MultipleGuid, MultipleBinary}

@@ -4,10 +4,10 @@ use Rattle.std.specs.Prelude.{replicate, slice_get, All, filter}
 use Rattle.std.specs.List.{flat_map}
 use Rattle.std.proofs.lemmas.List.{length-replicate}
 use Rattle.std.proofs.Math.Nat.{mul-suc}
-use Rattle.carrier_model.specs.Bytes.{le32}
+use Rattle.carrier_model.specs.Bytes.{le32, le_bytes, unit_bytes, pad4}
 use Rattle.carrier_model.specs.Keys.{Name, numbered, texted, IsName}
-use Rattle.carrier_model.specs.TnefCanonical.{zero_padded, le_bytes, with_size, unit_bytes, name_bytes, list_bytes, object_bytes, prop_bytes, props_bytes, comes_before_object}
-use Rattle.carrier_model.specs.TnefLists.{pad4}
+use Rattle.tnef_model.specs.TnefCanonical.{zero_padded, with_size, name_bytes, list_bytes, object_bytes, prop_bytes, props_bytes}
+use Rattle.carrier_model.specs.Kinds.{comes_before_object}
 use Rattle.carrier_model.specs.Totals.{capped}
 use Rattle.carrier_model.specs.Values.{Prop}
 use Rattle.tnef_props.specs.Written.{HasWidth, text_field, object_length}

@@ -19,7 +19,8 @@ use Rattle.carrier_model.specs.Sorted.{choose, with_elements}
 use Rattle.carrier_model.specs.Values.{Prop, prop_cmp}
 use Rattle.carrier_model.specs.Reasons.{DUPLICATE_LIST_PROPERTY}
 use Rattle.carrier_model.specs.Grammar.{Form, Spans, Means, repeat, gives}
-use Rattle.carrier_model.specs.TnefLists.{Item, kept, passed, carried, is_double, is_new, any_item, item, items, prop_in, passed_in, content_in, first_of_list, list_of, prop_list, PropList, word}
+use Rattle.tnef_model.specs.TnefLists.{Item, kept, passed, carried, is_double, is_new, any_item, item, items, prop_in, passed_in, content_in, list_of, prop_list, PropList, word}
+use Rattle.carrier_model.specs.Lists.{first_of_list}
 use Rattle.carrier_model.proofs.Reading.{Continues, continues_then, continues_here, continues_on, continues_repeat, fails_repeat, spans_repeat}
 use Rattle.tnef_props.specs.declared.rest.Rest.{Rest}
 use Rattle.tnef_props.specs.Steps.{Takes, Refuses}

@@ -5,7 +5,7 @@ use Rattle.carrier_io.specs.declared.reasons.Stop.{Stop}
 use Rattle.carrier_model.specs.Grammar.{Form, and_then, such, choice}
 use Rattle.carrier_model.specs.Keys.{Name}
 use Rattle.carrier_model.specs.Reasons.{BAD_NAME_KIND}
-use Rattle.carrier_model.specs.TnefLists.{raw, word, name, name_number, name_text}
+use Rattle.tnef_model.specs.TnefLists.{raw, word, name, name_number, name_text}
 use Rattle.tnef_props.specs.declared.rest.Rest.{Rest}
 use Rattle.tnef_props.specs.Steps.{Takes, Refuses}
 use Rattle.tnef_props.proofs.Forms.{then_takes, then_first, then_next}

@@ -11,7 +11,7 @@ use Rattle.std.proofs.Math.Seq.{take-nil, drop-nil}
 use Rattle.carrier_model.specs.Keys.{id, key_cmp}
 use Rattle.carrier_model.specs.Places.{IsCut}
 use Rattle.carrier_model.specs.Sorted.{choose}
-use Rattle.carrier_model.specs.TnefCanonical.{comes_before_object}
+use Rattle.carrier_model.specs.Kinds.{comes_before_object}
 use Rattle.carrier_model.specs.Values.{Prop, prop_cmp, kind_of, with_pair}
 use Rattle.tnef_props.specs.Named.{between}
 

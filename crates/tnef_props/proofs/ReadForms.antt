@@ -5,9 +5,9 @@ use Rattle.carrier_io.specs.Reads.{OnFault, MeansOnly, FaultOnly}
 use Rattle.carrier_io.specs.declared.reasons.Stop.{Stop}
 use Rattle.carrier_io.proofs.Sides.{on_fault, reads_ok, reads_fault}
 use Rattle.carrier_model.specs.Grammar.{Form, Spans, Means}
-use Rattle.carrier_model.specs.TnefLists.{PropList, prop_list}
+use Rattle.tnef_model.specs.TnefLists.{PropList, prop_list}
 use Rattle.carrier_model.proofs.Grammar.{means_exact}
-use Rattle.carrier_model.proofs.TnefLists.{prop_list_lawful}
+use Rattle.tnef_model.proofs.TnefLists.{prop_list_lawful}
 
 pub list_alone : (b : Bool) (at : ℕ) (bytes : List ℕ) (x : PropList) → Means (prop_list b) at bytes x → MeansOnly (Means (prop_list b) at bytes) ((prop_list b).fails at bytes) x
 list_alone b at bytes x m =

@@ -4,8 +4,7 @@ use Rattle.std.specs.Prelude.{nat_eq}
 use Rattle.std.specs.Int.{w64, from_le_bytes}
 use Rattle.std.proofs.lemmas.List.{drop_more}
 use Rattle.std.proofs.lemmas.Bool.Decides.{nat_tests}
-use Rattle.carrier_model.specs.Bytes.{number16}
-use Rattle.carrier_model.specs.TnefLists.{le_number, units_of}
+use Rattle.carrier_model.specs.Bytes.{number16, le_number, units_of}
 
 zero_cons : (x m : ℕ) → x ≡ 0 → nat_eq (x + 256 * m) 0 ≡ nat_eq m 0
 zero_cons x m e = grind (arith, nat_tests)

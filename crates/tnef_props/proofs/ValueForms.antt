@@ -6,15 +6,15 @@ use Rattle.carrier_io.proofs.Sides.{on_fault}
 use Rattle.std.proofs.lemmas.List.{length-append}
 use Rattle.carrier_model.specs.Grammar.{Form, and_then, choice, gives, repeat}
 use Rattle.carrier_model.specs.Values as plain
-use Rattle.carrier_model.specs.Values.{width_in, number_widths, numbers_widths, is_bytes_kind}
+use Rattle.carrier_model.specs.Values.{width_in, number_widths, numbers_widths, is_bytes_kind, IsBytes}
 use Rattle.std.specs.Prelude.{nat_le, take, drop, cond, ◌&&◌, ◌%◌}
 use Rattle.std.proofs.lemmas.List.{append-nil, length-take}
 use Rattle.std.proofs.lemmas.List.Elements.{All-push}
 use Rattle.std.proofs.lemmas.Bool.{eqb-true, eq-eqb, and_parts, leb-true}
 use Rattle.std.proofs.Common.{inl, inr}
-use Rattle.carrier_model.specs.Values.{IsBytes}
-use Rattle.carrier_model.specs.TnefLists.{size, sized, is_size, without_null, null_of, numbers_of}
-use Rattle.carrier_model.specs.TnefLists.{word, one, padded, text, many, value, bits_of, le_number, is_number_kind, is_numbers_kind}
+use Rattle.tnef_model.specs.TnefLists.{size, sized, is_size, numbers_of, word, one, padded, text, many, value}
+use Rattle.carrier_model.specs.Kinds.{without_null, null_of, bits_of, is_number_kind, is_numbers_kind}
+use Rattle.carrier_model.specs.Bytes.{le_number}
 use Rattle.carrier_model.proofs.Reading.{Continues, continues_then, continues_on, continues_repeat, fails_repeat, spans_repeat}
 use Rattle.tnef_props.specs.declared.rest.Rest.{Rest}
 use Rattle.tnef_props.specs.Steps.{Takes, Refuses}

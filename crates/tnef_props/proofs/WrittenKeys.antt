@@ -6,11 +6,10 @@ use Rattle.std.specs.declared.cmp.Ordering.TheVariants.{Less, Equal}
 use Rattle.std.proofs.lemmas.Cmp.{tied_itself}
 use Rattle.std.proofs.lemmas.List.Concat.{flat_map-append}
 use Rattle.std.proofs.lemmas.Option.{slice_get_within, get_or_from_slice_get}
-use Rattle.carrier_model.specs.Bytes.{le16, le32}
-use Rattle.carrier_model.specs.Keys.{Name, numbered, texted, name_cmp, set_of}
+use Rattle.carrier_model.specs.Bytes.{le16, le32, unit_bytes, pad4}
+use Rattle.carrier_model.specs.Keys.{Name, numbered, texted, name_cmp, set_of, id_of}
 use Rattle.carrier_model.specs.Sorted.{IsStrictlySorted, choose}
-use Rattle.carrier_model.specs.TnefCanonical.{zero_padded, unit_bytes, name_bytes, id_of}
-use Rattle.carrier_model.specs.TnefLists.{pad4}
+use Rattle.tnef_model.specs.TnefCanonical.{zero_padded, name_bytes}
 use Rattle.carrier_model.proofs.Orders.{name_total}
 use Rattle.tnef_props.specs.Named.{label_field}
 use Rattle.tnef_props.proofs.WrittenValues.{padded_parts, padded_open}

@@ -4,9 +4,8 @@ use Rattle.std.specs.Prelude.{replicate, slice_get, All, ◌==◌, if◌then◌e
 use Rattle.std.specs.List.{flat_map}
 use Rattle.std.proofs.lemmas.List.{length-replicate, replicate-append-replicate}
 use Rattle.std.proofs.lemmas.Option.{slice_get_within, get_or_from_slice_get}
-use Rattle.carrier_model.specs.Bytes.{le32}
-use Rattle.carrier_model.specs.TnefCanonical.{zero_padded, le_bytes, value_bytes}
-use Rattle.carrier_model.specs.TnefLists.{pad4}
+use Rattle.carrier_model.specs.Bytes.{le32, le_bytes, pad4}
+use Rattle.tnef_model.specs.TnefCanonical.{zero_padded, value_bytes}
 use Rattle.carrier_model.specs.Values.{Value, number, guid, bytes, numbers, guids, parts, IsValue, IsBytes}
 use Rattle.tnef_props.specs.Written.{HasWidth, Fits, number_field, counted, count_field, content_field}
 

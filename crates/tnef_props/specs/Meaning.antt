@@ -1,6 +1,6 @@
 -- What the items of a list mean.
 use Rattle.std.specs.Prelude.{ℕ, List}
-use Rattle.carrier_model.specs.TnefLists as lists
+use Rattle.tnef_model.specs.TnefLists as lists
 use Rattle.tnef_props.specs.declared.object.Object.{Object}
 use Rattle.tnef_props.specs.declared.items.Item.{Item}
 use Rattle.tnef_props.specs.declared.items.Item.TheVariants.{Kept, Passed, Carried}

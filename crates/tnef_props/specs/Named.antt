@@ -1,8 +1,8 @@
 -- The names that a set has, and the parts of a name as it is written.
 use Rattle.std.specs.Prelude.{ℕ, ◌-◌, [], ◌∷◌, ◌++◌, List, All, Contains, take, drop}
-use Rattle.carrier_model.specs.Bytes.{le32}
+use Rattle.carrier_model.specs.Bytes.{le32, unit_bytes}
 use Rattle.carrier_model.specs.Keys.{Name, numbered, texted, Key, id, named}
-use Rattle.carrier_model.specs.TnefCanonical.{unit_bytes, with_size}
+use Rattle.tnef_model.specs.TnefCanonical.{with_size}
 use Rattle.carrier_model.specs.Values.{Prop}
 
 -- what stands behind the property set

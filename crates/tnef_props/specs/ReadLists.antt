@@ -3,7 +3,7 @@ use Rattle.std.specs.Prelude.{◌≡◌, ◌⊎◌, ℕ, ◌+◌, ◌≤◌, ◌
 use Rattle.std.specs.Option.{option_map}
 use Rattle.carrier_io.specs.Reads.{MeansOnly}
 use Rattle.carrier_model.specs.Grammar.{Spans, Means, repeat}
-use Rattle.carrier_model.specs.TnefLists.{Item, PropList, prop_list, any_item, word, passed_in}
+use Rattle.tnef_model.specs.TnefLists.{Item, PropList, prop_list, any_item, word, passed_in}
 use Rattle.prop_values.specs.declared.props.Part.{Part}
 use Rattle.prop_values.specs.declared.props.Part.TheVariants.{Top, Embedded, Recipient, Attachment}
 use Rattle.tnef_props.specs.declared.object.ReadList.{ReadList}

@@ -3,7 +3,7 @@ use Rattle.std.specs.Prelude.{◌≡◌, ℕ, [], ◌∷◌, ◌++◌, Bool, tru
 use Rattle.std.specs.Option.{option_map}
 use Rattle.carrier_model.specs.Reasons.{DUPLICATE_LIST_PROPERTY}
 use Rattle.carrier_model.specs.Sorted.{with_elements}
-use Rattle.carrier_model.specs.TnefLists.{Item, kept, passed, carried, PropList, prop_list}
+use Rattle.tnef_model.specs.TnefLists.{Item, kept, passed, carried, PropList, prop_list}
 use Rattle.carrier_model.specs.Values.{Prop, prop_cmp}
 use Rattle.prop_values.specs.Arrivals.{IsFirstDouble}
 use Rattle.tnef_props.specs.declared.list.Draft.{Draft}

@@ -1,7 +1,7 @@
 -- The shapes of values, and the kinds that have them.
 use Rattle.std.specs.Prelude.{◌≡◌, ◌⊎◌, ℕ, ◌+◌, nat_eq, true, false}
 use Rattle.carrier_model.specs.Values.{width_in, number_widths, numbers_widths, is_bytes_kind}
-use Rattle.carrier_model.specs.TnefLists.{is_number_kind, is_numbers_kind}
+use Rattle.carrier_model.specs.Kinds.{is_number_kind, is_numbers_kind}
 use Rattle.std.specs.Prelude.{List}
 use Rattle.std.specs.Borrow.{Bor}
 use Rattle.carrier_model.specs.Values as plain

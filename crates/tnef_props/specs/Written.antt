@@ -2,8 +2,8 @@
 use Rattle.std.specs.Prelude.{◌≡◌, ◌⊎◌, ℕ, ◌-◌, ◌<◌, ◌^◌, ◌++◌, Bool, true, false, List, [], length, replicate, Option, Some, None}
 use Rattle.std.specs.Int.{w64, to_le_bytes}
 use Rattle.std.specs.List.{flat_map}
-use Rattle.carrier_model.specs.Bytes.{le32}
-use Rattle.carrier_model.specs.TnefCanonical.{zero_padded, le_bytes, with_size, text_bytes, object_bytes}
+use Rattle.carrier_model.specs.Bytes.{le32, le_bytes}
+use Rattle.tnef_model.specs.TnefCanonical.{zero_padded, with_size, text_bytes, object_bytes}
 use Rattle.carrier_model.specs.Values.{Value, number, guid, bytes, numbers, guids, parts, width_in, number_widths, numbers_widths}
 
 -- the bytes of a number: eight, or fewer

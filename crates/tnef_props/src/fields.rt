@@ -1,6 +1,7 @@
 //! Fields of a property list, one after another.
 ghost use Rattle.std.specs.Prelude.{◌≡◌, ◌+◌, ◌≤◌, ℕ, List, length, IfOk, IfErr};
-ghost use Rattle.carrier_model.specs.TnefLists as lists;
+ghost use Rattle.tnef_model.specs.TnefLists as lists;
+ghost use Rattle.carrier_model.specs.Bytes as octets;
 ghost use Rattle.tnef_props.specs.Steps.{Takes, Refuses};
 
 use crate::object::Object;
@@ -39,8 +40,8 @@ pub fn word<'a>(from: Rest<'a>) -> Result<(u32, Rest<'a>), Stop>
 
 /// Passes over what is missing to a multiple of four behind n bytes.
 pub fn skip_padding<'a>(from: Rest<'a>, n: usize) -> Result<Rest<'a>, Stop>
-    ensures found { IfOk result (λ to. (x : List ℕ) × Takes (lists.raw (lists.pad4 n)) from.entry x to) }
-    ensures fault { IfErr result (Refuses (lists.raw (lists.pad4 n)) from.entry) }
+    ensures found { IfOk result (λ to. (x : List ℕ) × Takes (lists.raw (octets.pad4 n)) from.entry x to) }
+    ensures fault { IfErr result (Refuses (lists.raw (octets.pad4 n)) from.entry) }
 {
     let (_, rest) = raw(from, pad4(n as u64) as usize)?;
     Ok(rest)
@@ -57,7 +58,7 @@ pub fn padded<'a>(from: Rest<'a>, n: usize) -> Result<(&'a [u8], Rest<'a>), Stop
 }
 
 /// A count of one.
-#[tactic(auto, unfolding(carrier_model::specs::TnefLists::one))]
+#[tactic(auto, unfolding(tnef_model::specs::TnefLists::one))]
 pub fn one<'a>(from: Rest<'a>) -> Result<Rest<'a>, Stop>
     ensures found { IfOk result (λ to. Takes lists.one from.entry 1 to) }
     ensures fault { IfErr result (Refuses lists.one from.entry) }
@@ -73,7 +74,7 @@ pub fn one<'a>(from: Rest<'a>) -> Result<Rest<'a>, Stop>
 }
 
 /// A size of at least so many bytes, and even where it has to be.
-#[tactic(auto, unfolding(carrier_model::specs::TnefLists::size))]
+#[tactic(auto, unfolding(tnef_model::specs::TnefLists::size))]
 pub fn size<'a>(from: Rest<'a>, even: bool, least: u32) -> Result<(u32, Rest<'a>), Stop>
     ensures found { IfOk result (λ x. Takes (lists.size even least) from.entry x.0 x.1) }
     ensures fault { IfErr result (Refuses (lists.size even least) from.entry) }
@@ -89,7 +90,7 @@ pub fn size<'a>(from: Rest<'a>, even: bool, least: u32) -> Result<(u32, Rest<'a>
 }
 
 /// A size, so many bytes, and padding.
-#[tactic(auto, unfolding(carrier_model::specs::TnefLists::sized))]
+#[tactic(auto, unfolding(tnef_model::specs::TnefLists::sized))]
 pub fn sized<'a>(from: Rest<'a>, even: bool, least: u32) -> Result<(Object<'a>, Rest<'a>), Stop>
     ensures found { IfOk result (λ x. Takes (lists.sized even least) from.entry (x.0.offset, x.0.bytes.now) x.1) }
     ensures fault { IfErr result (Refuses (lists.sized even least) from.entry) }

@@ -1,6 +1,6 @@
 //! What stands in a list.
 ghost use Rattle.std.specs.Prelude.{◌≡◌, ◌+◌, ◌*◌, ◌%◌, ◌/◌, ◌<◌, ◌≤◌, ◌&&◌, ℕ, List, length, IfOk, IfErr, MatchOption, nat_eq, true, false};
-ghost use Rattle.carrier_model.specs.TnefLists as lists;
+ghost use Rattle.tnef_model.specs.TnefLists as lists;
 ghost use Rattle.prop_values.specs.Kinds.{kind_number};
 ghost use Rattle.tnef_props.specs.Meaning.{item_of};
 ghost use Rattle.tnef_props.specs.Steps.{Takes, Refuses};
@@ -15,7 +15,7 @@ use prop_values::{Kind, Prop, kind_of};
 use std::alloc::Global;
 
 /// A tag, and the kind that it names; none for an Object.
-#[tactic(auto, unfolding(carrier_model::specs::TnefLists::tag), using(crate::proofs::KindNumbers::is_kind_of, crate::proofs::KindNumbers::is_no_kind))]
+#[tactic(auto, unfolding(tnef_model::specs::TnefLists::tag), using(crate::proofs::KindNumbers::is_kind_of, crate::proofs::KindNumbers::is_no_kind))]
 fn tag<'a>(from: Rest<'a>) -> Result<(u32, Option<Kind>, Rest<'a>), Stop>
     ensures found { IfOk result (λ x. Takes lists.tag from.entry x.0 x.2) }
     ensures kind { IfOk result (λ x. MatchOption x.1 (nat_eq (x.0 % 0x10000) 0x000D ≡ true) (λ k. (nat_eq (x.0 % 0x10000) 0x000D ≡ false) × (kind_number k ≡ x.0 % 0x10000))) }
@@ -54,7 +54,7 @@ fn is_attached(in_attachment: bool, tag: u32) -> bool
 }
 
 /// An Object behind its tag; that of an attachment has at least sixteen bytes.
-#[tactic(auto, unfolding(carrier_model::specs::TnefLists::object))]
+#[tactic(auto, unfolding(tnef_model::specs::TnefLists::object))]
 fn object<'a>(
     from: Rest<'a>,
     in_attachment: bool,
@@ -74,7 +74,7 @@ fn object<'a>(
 }
 
 /// A property behind its tag.
-#[tactic(auto, unfolding(carrier_model::specs::TnefLists::property))]
+#[tactic(auto, unfolding(tnef_model::specs::TnefLists::property))]
 fn prop<'a>(
     alloc: Global,
     from: Rest<'a>,
@@ -90,7 +90,7 @@ fn prop<'a>(
 }
 
 /// A property or an Object.
-#[tactic(auto, unfolding(carrier_model::specs::TnefLists::described))]
+#[tactic(auto, unfolding(tnef_model::specs::TnefLists::described))]
 fn described<'a>(
     alloc: Global,
     from: Rest<'a>,
@@ -117,7 +117,7 @@ fn described<'a>(
 }
 
 /// The next item, whatever stands before it.
-#[tactic(auto, unfolding(carrier_model::specs::TnefLists::any_item))]
+#[tactic(auto, unfolding(tnef_model::specs::TnefLists::any_item))]
 pub fn any_item<'a>(
     alloc: Global,
     from: Rest<'a>,

@@ -1,6 +1,6 @@
 //! Names of properties in a list.
 ghost use Rattle.std.specs.Prelude.{◌≡◌, ◌<◌, ◌≤◌, ◌^◌, ◌%◌, ℕ, List, length, IfOk, IfErr, nat_le};
-ghost use Rattle.carrier_model.specs.TnefLists as lists;
+ghost use Rattle.tnef_model.specs.TnefLists as lists;
 ghost use Rattle.carrier_model.specs.Grammar as forms;
 ghost use Rattle.carrier_model.specs.Keys.{IsName, IsKey};
 ghost use Rattle.prop_names.specs.Meaning.{name_of, key_of};
@@ -14,7 +14,7 @@ use prop_names::{Guid, Key, Name};
 use std::alloc::Global;
 
 /// The size of a name's text.
-#[tactic(auto, unfolding(carrier_model::specs::TnefLists::name_size))]
+#[tactic(auto, unfolding(tnef_model::specs::TnefLists::name_size))]
 fn name_size<'a>(from: Rest<'a>) -> Result<(u32, Rest<'a>), Stop>
     ensures found { IfOk result (λ x. Takes lists.name_size from.entry x.0 x.1) }
     ensures small { IfOk result (λ x. x.0 ≤ 512) }
@@ -31,7 +31,7 @@ fn name_size<'a>(from: Rest<'a>) -> Result<(u32, Rest<'a>), Stop>
 }
 
 /// The units of a name's text without its null, and the size before them.
-#[tactic(auto, unfolding(carrier_model::specs::TnefLists::name_units))]
+#[tactic(auto, unfolding(tnef_model::specs::TnefLists::name_units))]
 fn name_units<'a>(alloc: Global, from: Rest<'a>) -> Result<(Units, u32, Rest<'a>), Stop>
     ensures found { IfOk result (λ x. Takes lists.name_units from.entry (x.1, x.0) x.2) }
     ensures fault { IfErr result (Refuses lists.name_units from.entry) }
@@ -43,7 +43,7 @@ fn name_units<'a>(alloc: Global, from: Rest<'a>) -> Result<(Units, u32, Rest<'a>
 }
 
 /// The text of a name in a property set.
-#[tactic(auto, unfolding(carrier_model::specs::TnefLists::name_text))]
+#[tactic(auto, unfolding(tnef_model::specs::TnefLists::name_text))]
 fn name_text<'a>(alloc: Global, from: Rest<'a>, set: Guid) -> Result<(Name, Rest<'a>), Stop>
     ensures found { IfOk result (λ x. Takes (lists.name_text set.0) from.entry (name_of x.0) x.1) }
     ensures name { IfOk result (λ x. IsName (name_of x.0)) }
@@ -61,7 +61,7 @@ fn name_text<'a>(alloc: Global, from: Rest<'a>, set: Guid) -> Result<(Name, Rest
 }
 
 /// The number of a name in a property set.
-#[tactic(auto, unfolding(carrier_model::specs::TnefLists::name_number))]
+#[tactic(auto, unfolding(tnef_model::specs::TnefLists::name_number))]
 fn name_number<'a>(from: Rest<'a>, set: Guid) -> Result<(Name, Rest<'a>), Stop>
     ensures found { IfOk result (λ x. Takes (lists.name_number set.0) from.entry (name_of x.0) x.1) }
     ensures name { IfOk result (λ x. IsName (name_of x.0)) }
@@ -98,7 +98,7 @@ pub fn guid<'a>(from: Rest<'a>) -> Result<(Guid, Rest<'a>), Stop>
 }
 
 /// A property set's GUID, and a number or a text in it.
-#[tactic(auto, unfolding(carrier_model::specs::TnefLists::name))]
+#[tactic(auto, unfolding(tnef_model::specs::TnefLists::name))]
 fn name<'a>(alloc: Global, from: Rest<'a>) -> Result<(Name, Rest<'a>), Stop>
     ensures found { IfOk result (λ x. Takes lists.name from.entry (name_of x.0) x.1) }
     ensures name { IfOk result (λ x. IsName (name_of x.0)) }
@@ -114,7 +114,7 @@ fn name<'a>(alloc: Global, from: Rest<'a>) -> Result<(Name, Rest<'a>), Stop>
 }
 
 /// The key of an id: the id itself, or from 8000 on the name that follows.
-#[tactic(auto, unfolding(carrier_model::specs::TnefLists::key))]
+#[tactic(auto, unfolding(tnef_model::specs::TnefLists::key))]
 pub fn key<'a>(alloc: Global, from: Rest<'a>, id: u16) -> Result<(Key, Rest<'a>), Stop>
     ensures found { IfOk result (λ x. Takes (lists.key id) from.entry (key_of x.0) x.1) }
     ensures key { IfOk result (λ x. IsKey (key_of x.0)) }

@@ -1,6 +1,6 @@
 //! Where the Object of an attachment stands in its list.
 ghost use Rattle.std.specs.Prelude.{◌≡◌, ◌≤◌, take, drop, length, filter, not};
-ghost use Rattle.carrier_model.specs.TnefCanonical.{comes_before_object};
+ghost use Rattle.carrier_model.specs.Kinds.{comes_before_object};
 ghost use Rattle.carrier_model.specs.Values.{Prop as PlainProp};
 
 use carrier_io::Blob;

@@ -2,7 +2,7 @@
 ghost use Rattle.std.specs.Prelude.{◌≡◌, ◌≤◌, ◌-◌, length};
 ghost use Rattle.carrier_io.specs.Known.{Writes};
 ghost use Rattle.carrier_model.specs.Bytes.{sum16};
-ghost use Rattle.carrier_model.specs.TnefCanonical as canon;
+ghost use Rattle.tnef_model.specs.TnefCanonical as canon;
 ghost use Rattle.tnef_props.specs.Summed.{Sums};
 ghost use Rattle.tnef_props.specs.Named.{HasKey, HasNames, between};
 

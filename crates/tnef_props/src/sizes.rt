@@ -2,7 +2,8 @@
 ghost use Rattle.std.specs.Prelude.{◌≡◌, ◌+◌, ◌*◌, ◌<◌, ◌≤◌, ℕ, List, Option, All, length, flat_map};
 ghost use Rattle.std.specs.Option.{option_map};
 ghost use Rattle.carrier_model.specs.Keys as keys;
-ghost use Rattle.carrier_model.specs.TnefCanonical as canon;
+ghost use Rattle.tnef_model.specs.TnefCanonical as canon;
+ghost use Rattle.carrier_model.specs.Bytes as octets;
 ghost use Rattle.carrier_model.specs.Totals.{capped};
 ghost use Rattle.carrier_model.specs.Values as plain;
 ghost use Rattle.prop_names.specs.Meaning.{key_of, name_of};
@@ -43,8 +44,8 @@ fn texts_size<B: Blob>(null: usize, list: &Parts<B>) -> u64
 /// The bytes of so many numbers of the kind, each with its padding.
 fn numbers_size(kind: Kind, count: usize) -> u64
     requires { count < plain.list_limit }
-    ensures number { 0 < plain.width_in plain.number_widths (kind_number kind) → (n : ℕ) → count ≡ 1 → result ≡ length (canon.zero_padded (canon.le_bytes (plain.width_in plain.number_widths (kind_number kind)) n)) }
-    ensures numbers { 0 < plain.width_in plain.numbers_widths (kind_number kind) → (list : List ℕ) → length list ≡ count → result ≡ length (flat_map (λ n. canon.zero_padded (canon.le_bytes (plain.width_in plain.numbers_widths (kind_number kind)) n)) list) }
+    ensures number { 0 < plain.width_in plain.number_widths (kind_number kind) → (n : ℕ) → count ≡ 1 → result ≡ length (canon.zero_padded (octets.le_bytes (plain.width_in plain.number_widths (kind_number kind)) n)) }
+    ensures numbers { 0 < plain.width_in plain.numbers_widths (kind_number kind) → (list : List ℕ) → length list ≡ count → result ≡ length (flat_map (λ n. canon.zero_padded (octets.le_bytes (plain.width_in plain.numbers_widths (kind_number kind)) n)) list) }
     ensures few { result ≤ 8 * count }
 {
     if is_wide(kind) {

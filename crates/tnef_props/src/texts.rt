@@ -1,6 +1,8 @@
 //! Texts and their nulls.
 ghost use Rattle.std.specs.Prelude.{◌≡◌, ◌<◌, ◌≤◌, ◌^◌, ◌%◌, ℕ, List, length, IfOk, IfErr, nat_eq};
-ghost use Rattle.carrier_model.specs.TnefLists as lists;
+ghost use Rattle.tnef_model.specs.TnefLists as lists;
+ghost use Rattle.carrier_model.specs.Bytes as octets;
+ghost use Rattle.carrier_model.specs.Kinds as kinds;
 ghost use Rattle.prop_values.specs.Kinds.{kind_number};
 ghost use Rattle.tnef_props.specs.Steps.{Takes, Refuses};
 
@@ -12,7 +14,7 @@ use std::alloc::Global;
 
 /// The bytes of a null at the end of a text of the kind.
 pub fn null_size(kind: Kind) -> usize
-    ensures { result ≡ lists.null_of (kind_number kind) }
+    ensures { result ≡ kinds.null_of (kind_number kind) }
 {
     match kind {
         Kind::String8 => 1,
@@ -33,7 +35,7 @@ pub fn is_even(kind: Kind) -> bool
 
 /// The bytes without the last n of them, where these are zero.
 pub fn without_null<'a>(bytes: &'a [u8], n: usize) -> &'a [u8]
-    ensures { result.now ≡ lists.without_null n bytes.entry.now }
+    ensures { result.now ≡ kinds.without_null n bytes.entry.now }
 {
     if bytes.len() < n {
         return bytes;
@@ -44,7 +46,7 @@ pub fn without_null<'a>(bytes: &'a [u8], n: usize) -> &'a [u8]
 
 /// Whether all bytes are zero.
 fn is_zero(bytes: &[u8]) -> bool
-    ensures { result ≡ nat_eq (lists.le_number bytes.now) 0 }
+    ensures { result ≡ nat_eq (octets.le_number bytes.now) 0 }
 {
     for b in bytes {
         if *b != 0 {
@@ -55,7 +57,7 @@ fn is_zero(bytes: &[u8]) -> bool
 }
 
 /// A text without its null, or bytes.
-#[tactic(auto, unfolding(carrier_model::specs::TnefLists::text))]
+#[tactic(auto, unfolding(tnef_model::specs::TnefLists::text))]
 pub fn text<'a>(from: Rest<'a>, kind: Kind) -> Result<(&'a [u8], Rest<'a>), Stop>
     ensures found { IfOk result (λ x. Takes (lists.text (kind_number kind)) from.entry x.0.now x.1) }
     ensures fault { IfErr result (Refuses (lists.text (kind_number kind)) from.entry) }
@@ -67,7 +69,7 @@ pub fn text<'a>(from: Rest<'a>, kind: Kind) -> Result<(&'a [u8], Rest<'a>), Stop
 /// The units that bytes are.
 pub fn units_from(alloc: Global, bytes: &[u8]) -> Result<Units, NoMemory>
     requires { length bytes.now ≤ 512 }
-    ensures { IfOk result (λ r. r ≡ lists.units_of bytes.now) }
+    ensures { IfOk result (λ r. r ≡ octets.units_of bytes.now) }
 {
     let mut units = Units::new(alloc);
     for k in 0..bytes.len() / 2 {

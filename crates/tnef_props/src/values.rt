@@ -1,6 +1,8 @@
 //! Values of properties in a list.
 ghost use Rattle.std.specs.Prelude.{◌≡◌, ◌⊎◌, ◌+◌, ◌*◌, ◌<◌, ◌≤◌, ◌^◌, ℕ, List, length, IfOk, IfErr, true, All};
-ghost use Rattle.carrier_model.specs.TnefLists as lists;
+ghost use Rattle.tnef_model.specs.TnefLists as lists;
+ghost use Rattle.carrier_model.specs.Bytes as octets;
+ghost use Rattle.carrier_model.specs.Kinds as kinds;
 ghost use Rattle.carrier_model.specs.Values as plain;
 ghost use Rattle.prop_values.specs.Kinds.{kind_number};
 ghost use Rattle.tnef_props.specs.Steps.{Takes, Refuses};
@@ -19,7 +21,7 @@ use std::alloc::Global;
 /// The number that two, four or eight bytes are.
 fn number_in(bytes: &[u8]) -> u64
     requires { IsWidth (length bytes.now) }
-    ensures number { result ≡ lists.le_number bytes.now }
+    ensures number { result ≡ octets.le_number bytes.now }
     ensures below { result < 2 ^ (8 * length bytes.now) }
 {
     match bytes.len() {
@@ -32,7 +34,7 @@ fn number_in(bytes: &[u8]) -> u64
 /// A number's bits; a truth value is 0 or 1.
 fn bits_in(kind: Kind, bytes: &[u8]) -> u64
     requires { IsWidth (length bytes.now) }
-    ensures bits { result ≡ lists.bits_of (kind_number kind) bytes.now }
+    ensures bits { result ≡ kinds.bits_of (kind_number kind) bytes.now }
     ensures below { result < 2 ^ (8 * length bytes.now) }
     ensures truth { kind_number kind ≡ 0x000B → result < 2 }
 {
@@ -44,7 +46,7 @@ fn bits_in(kind: Kind, bytes: &[u8]) -> u64
 }
 
 /// A count, and so many numbers of a width in bytes.
-#[tactic(auto, unfolding(carrier_model::specs::TnefLists::many, carrier_model::specs::TnefLists::numbers_of))]
+#[tactic(auto, unfolding(tnef_model::specs::TnefLists::many, tnef_model::specs::TnefLists::numbers_of))]
 fn numbers_from<'a>(
     alloc: Global,
     from: Rest<'a>,
@@ -67,7 +69,7 @@ fn numbers_from<'a>(
 }
 
 /// A count, and so many GUIDs.
-#[tactic(auto, unfolding(carrier_model::specs::TnefLists::many))]
+#[tactic(auto, unfolding(tnef_model::specs::TnefLists::many))]
 fn guids_from<'a>(alloc: Global, from: Rest<'a>) -> Result<(Guids, Rest<'a>), Stop>
     ensures found { IfOk result (λ x. Takes (lists.many (lists.padded 16)) from.entry x.0 x.1) }
     ensures fit { IfOk result (λ x. All (λ g. length g ≡ 16) x.0) }
@@ -96,7 +98,7 @@ fn guid_value<'a>(from: Rest<'a>) -> Result<(Guid, Rest<'a>), Stop>
 }
 
 /// A count, and so many texts of a kind.
-#[tactic(auto, unfolding(carrier_model::specs::TnefLists::many))]
+#[tactic(auto, unfolding(tnef_model::specs::TnefLists::many))]
 fn parts_from<'a>(
     alloc: Global,
     from: Rest<'a>,

@@ -2,7 +2,9 @@
 ghost use Rattle.std.specs.Prelude.{◌≡◌, ◌≤◌, [], ◌∷◌, ◌++◌, length, Contains};
 ghost use Rattle.carrier_model.specs.Keys.{IsKey, IsName};
 ghost use Rattle.carrier_model.specs.Bytes.{le32 as model_le32};
-ghost use Rattle.carrier_model.specs.TnefCanonical as canon;
+ghost use Rattle.tnef_model.specs.TnefCanonical as canon;
+ghost use Rattle.carrier_model.specs.Bytes as octets;
+ghost use Rattle.carrier_model.specs.Keys as keys;
 ghost use Rattle.prop_names.specs.Meaning.{key_of, name_of};
 ghost use Rattle.tnef_props.specs.Summed.{Sums};
 ghost use Rattle.tnef_props.specs.Named.{label_field, HasKey};
@@ -18,7 +20,7 @@ const FIRST_NAMED: u16 = 0x8000;
 fn id_of(names: &NameSet, name: &Name) -> u16
     requires known { Contains names.now (name_of name.now) }
     requires few { length names.now ≤ 32000 }
-    ensures { result ≡ canon.id_of names.now (name_of name.now) }
+    ensures { result ≡ keys.id_of names.now (name_of name.now) }
 {
     match names.position(name) {
         Some(place) => FIRST_NAMED + place as u16,
@@ -37,7 +39,7 @@ fn append_tag<W: Sink>(sink: &mut W, id: u16, kind: u16) -> Result<u16, Failed>
 
 /// Appends units, each in two bytes.
 fn append_units<W: Sink>(sink: &mut W, units: &Units) -> Result<u16, Failed>
-    ensures { Sums (W.held sink.old) (W.held sink.new) (W.faults sink.old) (W.faults sink.new) result (canon.unit_bytes units.now) }
+    ensures { Sums (W.held sink.old) (W.held sink.new) (W.faults sink.old) (W.faults sink.new) result (octets.unit_bytes units.now) }
 {
     let mut sum = 0u16;
     for k in 0..units.len() {
@@ -49,7 +51,7 @@ fn append_units<W: Sink>(sink: &mut W, units: &Units) -> Result<u16, Failed>
 /// Appends units, a null and padding.
 fn append_padded_units<W: Sink>(sink: &mut W, units: &Units) -> Result<u16, Failed>
     requires { length units.now ≤ 255 }
-    ensures { Sums (W.held sink.old) (W.held sink.new) (W.faults sink.old) (W.faults sink.new) result (canon.zero_padded (canon.unit_bytes (units.now ++ 0 ∷ []))) }
+    ensures { Sums (W.held sink.old) (W.held sink.new) (W.faults sink.old) (W.faults sink.new) result (canon.zero_padded (octets.unit_bytes (units.now ++ 0 ∷ []))) }
 {
     let text = append_units(sink, units)?;
     let zeros = append_zeros(sink, 2 + pad4(2 * (units.len() as u64 + 1)) as usize)?;
@@ -59,7 +61,7 @@ fn append_padded_units<W: Sink>(sink: &mut W, units: &Units) -> Result<u16, Fail
 /// Appends the text of a name: 1, its size in bytes with the null, and the units with padding.
 fn append_text<W: Sink>(sink: &mut W, units: &Units) -> Result<u16, Failed>
     requires { length units.now ≤ 255 }
-    ensures { Sums (W.held sink.old) (W.held sink.new) (W.faults sink.old) (W.faults sink.new) result (model_le32 1 ++ canon.with_size (canon.unit_bytes (units.now ++ 0 ∷ []))) }
+    ensures { Sums (W.held sink.old) (W.held sink.new) (W.faults sink.old) (W.faults sink.new) result (model_le32 1 ++ canon.with_size (octets.unit_bytes (units.now ++ 0 ∷ []))) }
 {
     let size = le32(2 * (units.len() as u32 + 1));
     let head = append(sink, &[1, 0, 0, 0, size[0], size[1], size[2], size[3]])?;
@@ -101,7 +103,7 @@ fn append_named<W: Sink>(
     requires valid { IsName (name_of name.now) }
     requires known { Contains names.now (name_of name.now) }
     requires few { length names.now ≤ 32000 }
-    ensures { Sums (W.held sink.old) (W.held sink.new) (W.faults sink.old) (W.faults sink.new) result (canon.tag_bytes (canon.id_of names.now (name_of name.now)) kind ++ canon.name_bytes (name_of name.now)) }
+    ensures { Sums (W.held sink.old) (W.held sink.new) (W.faults sink.old) (W.faults sink.new) result (canon.tag_bytes (keys.id_of names.now (name_of name.now)) kind ++ canon.name_bytes (name_of name.now)) }
 {
     let tag = append_tag(sink, id_of(names, name), kind)?;
     let rest = append_name(sink, name)?;

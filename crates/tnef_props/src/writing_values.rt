@@ -1,7 +1,7 @@
 //! Values as they are written.
 ghost use Rattle.std.specs.Prelude.{◌≡◌, ◌+◌, ◌-◌, ◌*◌, ◌^◌, ◌<◌, ◌≤◌, ◌++◌, ℕ, All, length, replicate, flat_map};
-ghost use Rattle.carrier_model.specs.TnefCanonical as canon;
-ghost use Rattle.carrier_model.specs.TnefLists as lists;
+ghost use Rattle.tnef_model.specs.TnefCanonical as canon;
+ghost use Rattle.carrier_model.specs.Kinds as kinds;
 ghost use Rattle.carrier_model.specs.Values as plain;
 ghost use Rattle.prop_values.specs.Kinds.{kind_number};
 ghost use Rattle.prop_values.specs.Meaning.{value_of};
@@ -35,7 +35,7 @@ pub fn is_wide(kind: Kind) -> bool
 
 /// The bytes of the null behind each text of several of the kind.
 pub fn part_null_size(kind: Kind) -> usize
-    ensures { result ≡ lists.null_of (kind_number kind - 0x1000) }
+    ensures { result ≡ kinds.null_of (kind_number kind - 0x1000) }
 {
     match kind {
         Kind::MultipleString8 => 1,

@@ -7,6 +7,10 @@ use Rattle.carrier_model.specs.Sectors.{u16_of, u32_of, word_offset}
 use Rattle.carrier_model.specs.Tables.{header_of, sector_of, difat_of, fat_sectors_of}
 use Rattle.carrier_model.proofs.file_rows.faults_of_changed_versions.Goals as goal
 
+pub returns-clause-ignored : goal.returns-clause-ignored
+unfolding longest chain_of family_names names_of claims_of opened_of visited visit tables_of long_chain_of short_chain_of mini_of load_of claim_of u16_of u32_of word_offset header_of sector_of difat_of fat_sectors_of
+returns-clause-ignored c = refl
+
 pub returns-clause-unknown : goal.returns-clause-unknown
 unfolding longest chain_of family_names names_of claims_of opened_of visited visit tables_of long_chain_of short_chain_of mini_of load_of claim_of u16_of u32_of word_offset header_of sector_of difat_of fat_sectors_of
 returns-clause-unknown c = refl

@@ -1,5 +1,5 @@
 use Rattle.carrier_model.proofs.StoreOrder.{sorted-order, sorted-again}
-use Rattle.carrier_model.proofs.WrittenChildren.{sorted-same}
+use Rattle.carrier_model.proofs.FoundChildren.{sorted-same}
 use Rattle.carrier_model.proofs.store_laws.siblings_are_put_in_order.Goals as goal
 
 pub returns : goal.returns

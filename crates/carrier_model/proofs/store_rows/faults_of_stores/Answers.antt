@@ -1,34 +1,25 @@
-use Rattle.std.proofs.Common.{refl}
+use Rattle.std.specs.Prelude.{refl}
+use Rattle.carrier_model.specs.Chains.{longest, chain_of}
+use Rattle.carrier_model.specs.Files.{family_names, names_of, claims_of, opened_of}
+use Rattle.carrier_model.specs.Links.{visited, visit}
+use Rattle.carrier_model.specs.Loads.{tables_of, long_chain_of, short_chain_of, mini_of, load_of, claim_of}
 use Rattle.carrier_model.specs.Sectors.{u16_of, u32_of, word_offset}
 use Rattle.carrier_model.specs.Tables.{header_of, sector_of, difat_of, fat_sectors_of}
-use Rattle.carrier_model.specs.Chains.{longest, chain_of}
-use Rattle.carrier_model.specs.Loads.{tables_of, long_chain_of, short_chain_of, mini_of, load_of, claim_of}
-use Rattle.carrier_model.specs.Links.{visited, visit}
-use Rattle.carrier_model.specs.Files.{family_names, names_of, claims_of, opened_of}
-use Rattle.carrier_model.specs.Turns.{in_turn}
-use Rattle.carrier_model.specs.NameMap.{pairs_of, given_by, named_by, name_of, text_at}
-use Rattle.carrier_model.specs.MsgValues.{parts_of, streamed_value, stored_value, value_of}
-use Rattle.carrier_model.specs.MsgProps.{key_of, prop_of, item_of, next_item, props_of}
-use Rattle.carrier_model.specs.MsgMessage.{held_in, body_in, attachment_in, message_with, message_in, files_meaning, file_meaning}
 use Rattle.carrier_model.specs.Stores.{store_in, store_file}
 use Rattle.carrier_model.proofs.store_rows.faults_of_stores.Goals as goal
 
 pub returns-clause-message : goal.returns-clause-message
-unfolding u16_of u32_of word_offset header_of sector_of difat_of fat_sectors_of longest chain_of tables_of long_chain_of short_chain_of mini_of load_of claim_of visited visit family_names names_of claims_of opened_of in_turn pairs_of given_by named_by name_of text_at parts_of streamed_value stored_value value_of key_of prop_of item_of next_item props_of held_in body_in attachment_in message_with message_in files_meaning file_meaning store_in store_file
+unfolding longest chain_of family_names names_of claims_of opened_of visited visit tables_of long_chain_of short_chain_of mini_of load_of claim_of u16_of u32_of word_offset header_of sector_of difat_of fat_sectors_of store_in store_file
 returns-clause-message c = refl
 
-pub returns-clause-message4 : goal.returns-clause-message4
-unfolding u16_of u32_of word_offset header_of sector_of difat_of fat_sectors_of longest chain_of tables_of long_chain_of short_chain_of mini_of load_of claim_of visited visit family_names names_of claims_of opened_of in_turn pairs_of given_by named_by name_of text_at parts_of streamed_value stored_value value_of key_of prop_of item_of next_item props_of held_in body_in attachment_in message_with message_in files_meaning file_meaning store_in store_file
-returns-clause-message4 c = refl
-
 pub returns-clause-nothing : goal.returns-clause-nothing
-unfolding u16_of u32_of word_offset header_of sector_of difat_of fat_sectors_of longest chain_of tables_of long_chain_of short_chain_of mini_of load_of claim_of visited visit family_names names_of claims_of opened_of in_turn pairs_of given_by named_by name_of text_at parts_of streamed_value stored_value value_of key_of prop_of item_of next_item props_of held_in body_in attachment_in message_with message_in files_meaning file_meaning store_in store_file
+unfolding longest chain_of family_names names_of claims_of opened_of visited visit tables_of long_chain_of short_chain_of mini_of load_of claim_of u16_of u32_of word_offset header_of sector_of difat_of fat_sectors_of store_in store_file
 returns-clause-nothing c = refl
 
 pub returns-clause-deep : goal.returns-clause-deep
-unfolding u16_of u32_of word_offset header_of sector_of difat_of fat_sectors_of longest chain_of tables_of long_chain_of short_chain_of mini_of load_of claim_of visited visit family_names names_of claims_of opened_of in_turn pairs_of given_by named_by name_of text_at parts_of streamed_value stored_value value_of key_of prop_of item_of next_item props_of held_in body_in attachment_in message_with message_in files_meaning file_meaning store_in store_file
+unfolding longest chain_of family_names names_of claims_of opened_of visited visit tables_of long_chain_of short_chain_of mini_of load_of claim_of u16_of u32_of word_offset header_of sector_of difat_of fat_sectors_of store_in store_file
 returns-clause-deep c = refl
 
 pub returns-clause-deeper : goal.returns-clause-deeper
-unfolding u16_of u32_of word_offset header_of sector_of difat_of fat_sectors_of longest chain_of tables_of long_chain_of short_chain_of mini_of load_of claim_of visited visit family_names names_of claims_of opened_of in_turn pairs_of given_by named_by name_of text_at parts_of streamed_value stored_value value_of key_of prop_of item_of next_item props_of held_in body_in attachment_in message_with message_in files_meaning file_meaning store_in store_file
+unfolding longest chain_of family_names names_of claims_of opened_of visited visit tables_of long_chain_of short_chain_of mini_of load_of claim_of u16_of u32_of word_offset header_of sector_of difat_of fat_sectors_of store_in store_file
 returns-clause-deeper c = refl

@@ -3,8 +3,7 @@ use Rattle.std.specs.List.{range_with_len}
 use Rattle.std.proofs.lemmas.List.{append_assoc}
 use Rattle.std.proofs.lemmas.List.FromFn.{map-range_with_len_more}
 use Rattle.std.proofs.lemmas.Grind.{common_steps}
-use Rattle.carrier_model.specs.Sectors.{sector_start}
-use Rattle.carrier_model.specs.Sectors.{u32_of}
+use Rattle.carrier_model.specs.Sectors.{sector_start, u32_of}
 use Rattle.cfb_sectors.proofs.words.push_words.Goals as goal
 
 -- one more value of a function at the end

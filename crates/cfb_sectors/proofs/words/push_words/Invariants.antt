@@ -1,7 +1,6 @@
 use Rattle.std.proofs.Common.{◌-◌, ◌≡◌, ℕ, ◌+◌, ◌*◌, ◌<◌, ◌≤◌, ◌++◌, List, map, vec_len}
 use Rattle.std.specs.List.{range_with_len}
-use Rattle.carrier_model.specs.Sectors.{sector_start}
-use Rattle.carrier_model.specs.Sectors.{u32_of}
+use Rattle.carrier_model.specs.Sectors.{sector_start, u32_of}
 use Rattle.cfb_sectors.proofs.words.push_words.Given as goal
 
 abbrev pub invariant-loop-i : goal.invariant-loop-i

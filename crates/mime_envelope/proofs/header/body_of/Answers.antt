@@ -1,5 +1,5 @@
 use Rattle.std.proofs.Common.{◌∙◌, arith}
-use Rattle.carrier_model.proofs.Entities.{body_of-none, body_of-empty, body_of-refused, body_of-next}
+use Rattle.mail_model.proofs.Entities.{body_of-none, body_of-empty, body_of-refused, body_of-next}
 use Rattle.mime_envelope.proofs.Coded.{none_left}
 use Rattle.mime_envelope.proofs.header.body_of.Goals as goal
 

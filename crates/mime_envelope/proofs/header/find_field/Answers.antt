@@ -1,7 +1,7 @@
 use Rattle.std.proofs.Common.{◌≡◌, ◌++◌, List, ℕ, true, false, Some, sym, ap, ◌∙◌, arith}
-use Rattle.carrier_model.specs.Lines.{lines, behind, text_of}
-use Rattle.carrier_model.specs.Entities.{continued}
-use Rattle.carrier_model.proofs.Entities.{field-none, field-end, field-found, field-other, field-blank}
+use Rattle.mail_model.specs.Lines.{lines, behind, text_of}
+use Rattle.mail_model.specs.Entities.{continued}
+use Rattle.mail_model.proofs.Entities.{field-none, field-end, field-found, field-other, field-blank}
 use Rattle.mime_envelope.proofs.Coded.{none_left}
 use Rattle.mime_envelope.proofs.Texts.{word_before}
 use Rattle.mime_envelope.proofs.header.find_field.Goals as goal

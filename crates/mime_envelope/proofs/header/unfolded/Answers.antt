@@ -1,8 +1,8 @@
 use Rattle.std.proofs.Common.{◌≡◌, ◌++◌, [], List, ℕ, sym, ap, ◌∙◌, append_assoc}
 use Rattle.std.proofs.lemmas.List.{append-nil}
-use Rattle.carrier_model.specs.Lines.{lines, text_of}
-use Rattle.carrier_model.specs.Entities.{continued}
-use Rattle.carrier_model.proofs.Entities.{continued-none, continued-stop, continued-more}
+use Rattle.mail_model.specs.Lines.{lines, text_of}
+use Rattle.mail_model.specs.Entities.{continued}
+use Rattle.mail_model.proofs.Entities.{continued-none, continued-stop, continued-more}
 use Rattle.mime_envelope.proofs.Coded.{none_left}
 use Rattle.mime_envelope.proofs.header.unfolded.Goals as goal
 use Rattle.mime_envelope.proofs.header.unfolded.Goals.{else-loop-rest-test, then-loop-rest-test+then-not-begins_blank}

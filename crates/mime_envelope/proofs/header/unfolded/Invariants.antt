@@ -1,6 +1,6 @@
 use Rattle.std.proofs.Common.{◌≡◌, ◌++◌, length}
-use Rattle.carrier_model.specs.Lines.{lines}
-use Rattle.carrier_model.specs.Entities as entity
+use Rattle.mail_model.specs.Lines.{lines}
+use Rattle.mail_model.specs.Entities as entity
 use Rattle.mime_envelope.proofs.header.unfolded.Given as goal
 
 abbrev pub invariant-loop-rest : goal.invariant-loop-rest

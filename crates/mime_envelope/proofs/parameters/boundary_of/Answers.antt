@@ -1,7 +1,7 @@
 use Rattle.std.proofs.Common.{◌≡◌, ◌<◌, List, ℕ, Some, codes, length, drop, sym, ap, ◌∙◌, arith}
-use Rattle.carrier_model.specs.Lines.{is_word, size_before}
-use Rattle.carrier_model.specs.Entities.{boundary, protected_size}
-use Rattle.carrier_model.proofs.Parameters.{boundary_from, boundary-behind, boundary-none, from-found, from-text, from-other}
+use Rattle.mail_model.specs.Lines.{is_word, size_before}
+use Rattle.mail_model.specs.Entities.{boundary, protected_size}
+use Rattle.mail_model.proofs.Parameters.{boundary_from, boundary-behind, boundary-none, from-found, from-text, from-other}
 use Rattle.mime_envelope.proofs.parameters.boundary_of.Goals as goal
 use Rattle.mime_envelope.proofs.parameters.boundary_of.Goals.{else-is_parameter-via-then-is_parameter+else-is_word, else-is_parameter-via-else-is_parameter}
 

@@ -1,5 +1,5 @@
 use Rattle.std.proofs.Common.{◌≡◌, length}
-use Rattle.carrier_model.specs.Entities as entity
+use Rattle.mail_model.specs.Entities as entity
 use Rattle.mime_envelope.proofs.parameters.boundary_of.Given as goal
 
 abbrev pub invariant-loop-rest : goal.invariant-loop-rest

@@ -1,6 +1,6 @@
 use Rattle.std.proofs.Common.{List, ℕ, codes, take, ap, ◌∙◌}
 use Rattle.std.specs.Str.{str_eq_ignore_ascii_case}
-use Rattle.carrier_model.specs.Lines.{trimmed}
+use Rattle.mail_model.specs.Lines.{trimmed}
 use Rattle.mime_envelope.proofs.Texts.{take_least}
 use Rattle.mime_envelope.proofs.parameters.is_multipart.Goals as goal
 

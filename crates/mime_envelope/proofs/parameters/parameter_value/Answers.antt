@@ -1,7 +1,7 @@
 use Rattle.std.proofs.Common.{◌≡◌, List, ℕ, drop, sym, ap, ◌∙◌, rules}
-use Rattle.carrier_model.specs.Lines.{trimmed, behind}
-use Rattle.carrier_model.specs.Entities.{unquoted, parameter_value, is_quoted}
-use Rattle.carrier_model.proofs.Parameters.{value-quoted, value-plain}
+use Rattle.mail_model.specs.Lines.{trimmed, behind}
+use Rattle.mail_model.specs.Entities.{unquoted, parameter_value, is_quoted}
+use Rattle.mail_model.proofs.Parameters.{value-quoted, value-plain}
 use Rattle.mime_envelope.proofs.parameters.parameter_value.Goals as goal
 
 pub returns-then-is_quoted : goal.returns-then-is_quoted

@@ -1,6 +1,6 @@
 use Rattle.std.proofs.Common.{◌≡◌, ◌-◌, List, ℕ, length, drop, sym, ap, ◌∙◌}
-use Rattle.carrier_model.specs.Entities.{quoted_size, value_on, is_quoted}
-use Rattle.carrier_model.proofs.Parameters.{protected-text, protected-plain, protected-quoted}
+use Rattle.mail_model.specs.Entities.{quoted_size, value_on, is_quoted}
+use Rattle.mail_model.proofs.Parameters.{protected-text, protected-plain, protected-quoted}
 use Rattle.mime_envelope.proofs.parameters.protected_size.Goals as goal
 use Rattle.mime_envelope.proofs.parameters.protected_size.Goals.{then-not-is_parameter-via-then-not-is_parameter, then-not-is_parameter-via-else-not-is_parameter+then-not-is_quoted}
 

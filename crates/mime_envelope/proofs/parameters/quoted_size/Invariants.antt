@@ -1,6 +1,6 @@
 use Rattle.std.proofs.Common.{◌≡◌, ◌+◌, drop, if◌then◌else◌}
-use Rattle.carrier_model.specs.Entities as entity
-use Rattle.carrier_model.proofs.Parameters.{pending}
+use Rattle.mail_model.specs.Entities as entity
+use Rattle.mail_model.proofs.Parameters.{pending}
 use Rattle.mime_envelope.proofs.parameters.quoted_size.Given as goal
 
 abbrev pub invariant-loop-i : goal.invariant-loop-i

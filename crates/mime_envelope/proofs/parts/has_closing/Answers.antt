@@ -1,5 +1,5 @@
 use Rattle.std.proofs.Common.{sym, ◌∙◌}
-use Rattle.carrier_model.proofs.Entities.{any_closing-none}
+use Rattle.mail_model.proofs.Entities.{any_closing-none}
 use Rattle.mime_envelope.proofs.Coded.{none_left}
 use Rattle.mime_envelope.proofs.parts.has_closing.Goals as goal
 

@@ -1,7 +1,7 @@
 use Rattle.std.proofs.Common.{◌≡◌, length}
 use Rattle.std.specs.List.{list_any}
-use Rattle.carrier_model.specs.Lines.{lines}
-use Rattle.carrier_model.specs.Entities.{is_closing}
+use Rattle.mail_model.specs.Lines.{lines}
+use Rattle.mail_model.specs.Entities.{is_closing}
 use Rattle.mime_envelope.proofs.parts.has_closing.Given as goal
 
 abbrev pub invariant-loop-rest : goal.invariant-loop-rest

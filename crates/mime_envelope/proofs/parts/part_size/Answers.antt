@@ -1,5 +1,5 @@
 use Rattle.mime_envelope.proofs.Coded.{none_left}
-use Rattle.carrier_model.proofs.Entities.{part_from-closing, part_from-delimiter}
+use Rattle.mail_model.proofs.Entities.{part_from-closing, part_from-delimiter}
 use Rattle.mime_envelope.proofs.Cuts.{part_more, part_end, part_whole}
 use Rattle.mime_envelope.proofs.parts.part_size.Goals as goal
 

@@ -1,5 +1,5 @@
 use Rattle.std.proofs.Common.{◌≡◌, ◌++◌, length}
-use Rattle.carrier_model.specs.Envelope as envelope
+use Rattle.mail_model.specs.Envelope as envelope
 use Rattle.mime_envelope.proofs.reading.characters.Given as goal
 
 abbrev pub invariant-loop-rest : goal.invariant-loop-rest

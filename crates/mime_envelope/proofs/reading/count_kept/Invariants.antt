@@ -1,7 +1,7 @@
 use Rattle.std.proofs.Common.{◌≡◌, ◌+◌, drop}
 use Rattle.std.specs.Prelude.{not}
 use Rattle.std.specs.List.{prefix_len}
-use Rattle.carrier_model.specs.Envelope.{is_skipped}
+use Rattle.mail_model.specs.Envelope.{is_skipped}
 use Rattle.mime_envelope.proofs.reading.count_kept.Given as goal
 
 abbrev pub invariant-loop-i : goal.invariant-loop-i

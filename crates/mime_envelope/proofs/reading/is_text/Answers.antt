@@ -2,7 +2,7 @@ use Rattle.std.proofs.Common.{sym, ap, ◌∙◌, ◌||◌, ◌&&◌}
 use Rattle.std.proofs.lemmas.List.{take_all}
 use Rattle.std.proofs.lemmas.List.Folds.{list_all_more}
 use Rattle.std.specs.List.{list_all}
-use Rattle.carrier_model.specs.Envelope.{is_skipped, is_character}
+use Rattle.mail_model.specs.Envelope.{is_skipped, is_character}
 use Rattle.mime_envelope.proofs.reading.is_text.Goals as goal
 
 pub loop-byte-preserved : goal.loop-byte-preserved

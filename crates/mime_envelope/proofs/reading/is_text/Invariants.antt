@@ -1,6 +1,6 @@
 use Rattle.std.proofs.Common.{◌≡◌, ◌||◌, take}
 use Rattle.std.specs.List.{list_all}
-use Rattle.carrier_model.specs.Envelope as envelope
+use Rattle.mail_model.specs.Envelope as envelope
 use Rattle.mime_envelope.proofs.reading.is_text.Given as goal
 
 abbrev pub invariant-loop-byte : goal.invariant-loop-byte

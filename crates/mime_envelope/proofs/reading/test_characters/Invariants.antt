@@ -1,5 +1,5 @@
 use Rattle.std.proofs.Common.{◌≡◌, ◌+◌, drop}
-use Rattle.carrier_model.specs.Envelope as envelope
+use Rattle.mail_model.specs.Envelope as envelope
 use Rattle.mime_envelope.proofs.reading.test_characters.Given as goal
 
 abbrev pub invariant-loop-i : goal.invariant-loop-i

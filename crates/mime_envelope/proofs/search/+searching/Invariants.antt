@@ -1,5 +1,5 @@
 use Rattle.std.proofs.Common.{◌≡◌, ◌+◌, ◌*◌, length}
-use Rattle.carrier_model.specs.Lines.{lines}
+use Rattle.mail_model.specs.Lines.{lines}
 use Rattle.mime_envelope.specs.Parts.{first_in}
 use Rattle.mime_envelope.proofs.search.+searching.Given as goal
 

@@ -1,6 +1,6 @@
 use Rattle.std.proofs.Common.{◌≡◌, ◌+◌, drop}
 use Rattle.std.specs.List.{prefix_len}
-use Rattle.carrier_model.specs.Lines.{is_blank}
+use Rattle.mail_model.specs.Lines.{is_blank}
 use Rattle.mime_envelope.proofs.text.count_blanks.Given as goal
 
 abbrev pub invariant-loop-i : goal.invariant-loop-i

@@ -1,4 +1,4 @@
-use Rattle.carrier_model.proofs.Lines.{lines-split}
+use Rattle.mail_model.proofs.Lines.{lines-split}
 use Rattle.mime_envelope.proofs.text.split_line.Goals as goal
 
 pub returns-clause-lines : goal.returns-clause-lines

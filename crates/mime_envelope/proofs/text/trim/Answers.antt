@@ -1,6 +1,6 @@
 use Rattle.std.proofs.Common.{sym, ◌∙◌, arith}
 use Rattle.std.proofs.lemmas.List.Sums.{suffix_len-take_no}
-use Rattle.carrier_model.specs.Lines.{is_blank}
+use Rattle.mail_model.specs.Lines.{is_blank}
 use Rattle.mime_envelope.proofs.Texts.{trimmed_is, suffix_none}
 use Rattle.mime_envelope.proofs.text.trim.Goals as goal
 use Rattle.mime_envelope.proofs.text.trim.Goals.{then-loop-end-test+else-is_blank, else-loop-end-test}

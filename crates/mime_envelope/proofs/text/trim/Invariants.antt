@@ -1,6 +1,6 @@
 use Rattle.std.proofs.Common.{◌≡◌, ◌+◌, ◌-◌, ◌≤◌, length, take}
 use Rattle.std.specs.List.{suffix_len}
-use Rattle.carrier_model.specs.Lines.{is_blank}
+use Rattle.mail_model.specs.Lines.{is_blank}
 use Rattle.mime_envelope.proofs.text.trim.Given as goal
 
 abbrev pub invariant-loop-end : goal.invariant-loop-end

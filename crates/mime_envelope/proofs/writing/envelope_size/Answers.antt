@@ -1,5 +1,5 @@
 use Rattle.std.proofs.Common.{arith}
-use Rattle.carrier_model.proofs.EnvelopeText.{length-envelope_of}
+use Rattle.mail_model.proofs.EnvelopeText.{length-envelope_of}
 use Rattle.mime_envelope.proofs.writing.envelope_size.Goals as goal
 
 pub returns : goal.returns

@@ -1,8 +1,8 @@
 use Rattle.std.proofs.Common.{ap, ◌∙◌, arith}
 use Rattle.mime_envelope.proofs.Coded.{some_left, none_left}
 use Rattle.std.proofs.lemmas.Result.{err_from_is_err_and}
-use Rattle.carrier_model.specs.EnvelopeText.{body_lines}
-use Rattle.carrier_model.proofs.EnvelopeText.{body_lines-split, body_lines-none}
+use Rattle.mail_model.specs.EnvelopeText.{body_lines}
+use Rattle.mail_model.proofs.EnvelopeText.{body_lines-split, body_lines-none}
 use Rattle.carrier_io.proofs.Known.{Written-all}
 use Rattle.mime_envelope.proofs.Coded.{Written-line, Written-stopped}
 use Rattle.mime_envelope.proofs.writing.write_body.Goals as goal

@@ -1,5 +1,5 @@
 use Rattle.std.proofs.Common.{◌≤◌, length}
-use Rattle.carrier_model.specs.EnvelopeText.{body_lines}
+use Rattle.mail_model.specs.EnvelopeText.{body_lines}
 use Rattle.carrier_io.proofs.Known.{Written}
 use Rattle.mime_envelope.proofs.writing.write_body.Given as goal
 

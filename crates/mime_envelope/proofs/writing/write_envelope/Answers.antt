@@ -1,5 +1,5 @@
 use Rattle.carrier_io.proofs.Known.{andthen, failing}
-use Rattle.carrier_model.specs.EnvelopeText.{version_line, type_line, encoding_line, disposition_line, envelope_head, body_lines, envelope_of}
+use Rattle.mail_model.specs.EnvelopeText.{version_line, type_line, encoding_line, disposition_line, envelope_head, body_lines, envelope_of}
 use Rattle.mime_envelope.proofs.writing.write_envelope.Goals as goal
 
 pub returns-in_err-write_pieces : goal.returns-in_err-write_pieces

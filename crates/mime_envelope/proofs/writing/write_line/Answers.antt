@@ -1,6 +1,6 @@
 use Rattle.std.proofs.Common.{◌+◌, ◌<◌, length, refl, sym, arith}
 use Rattle.std.proofs.Math.ListN.{set}
-use Rattle.carrier_model.specs.Base64.{base64_text}
+use Rattle.mail_model.specs.Base64.{base64_text}
 use Rattle.mime_envelope.proofs.Coded.{ended_line}
 use Rattle.mime_envelope.proofs.writing.write_line.Goals as goal
 

@@ -1,5 +1,5 @@
 use Rattle.std.proofs.Common.{◌++◌}
-use Rattle.carrier_model.specs.LegacyAttributes.{message_rows, attachment_rows}
+use Rattle.tnef_model.specs.LegacyAttributes.{message_rows, attachment_rows}
 use Rattle.tnef_attributes.specs.Rules.{plain_rule, plain_value}
 use Rattle.tnef_attributes.proofs.Rows.{row_found}
 use Rattle.tnef_attributes.proofs.legacy.legacy_prop.Goals as goal

@@ -1,5 +1,5 @@
 use Rattle.std.proofs.Common.{◌≡◌, ◌∙◌, arith, pos}
-use Rattle.carrier_model.specs.Moments.{day_number}
+use Rattle.tnef_model.specs.Moments.{day_number}
 use Rattle.tnef_attributes.proofs.DayLemmas.{until_is, count_is}
 use Rattle.tnef_attributes.proofs.moments.days_to.Goals as goal
 

@@ -1,5 +1,5 @@
 use Rattle.std.proofs.Common.{arith}
-use Rattle.carrier_model.proofs.Attributes.{attr_begins}
+use Rattle.tnef_model.proofs.Attributes.{attr_begins}
 use Rattle.tnef_attributes.proofs.reading.attribute_at.Goals as goal
 
 pub returns-clause-found : goal.returns-clause-found

@@ -1,5 +1,5 @@
 use Rattle.std.proofs.Common.{◌+◌, ℕ, length, ap, ◌∙◌, arith}
-use Rattle.carrier_model.specs.Attributes.{attrs}
+use Rattle.tnef_model.specs.Attributes.{attrs}
 use Rattle.carrier_model.proofs.Items.{Spells-push, behind-push}
 use Rattle.tnef_attributes.specs.Views.{view}
 use Rattle.tnef_attributes.proofs.reading.attributes_of.Goals as goal

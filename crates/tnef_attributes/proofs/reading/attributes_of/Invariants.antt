@@ -1,6 +1,6 @@
 use Rattle.std.proofs.Common.{◌≡◌, ◌+◌, length}
 use Rattle.carrier_model.specs.Items.{Spells, behind}
-use Rattle.carrier_model.specs.Attributes.{attrs}
+use Rattle.tnef_model.specs.Attributes.{attrs}
 use Rattle.tnef_attributes.proofs.reading.attributes_of.Given as goal
 
 abbrev pub invariant-loop-rest : goal.invariant-loop-rest

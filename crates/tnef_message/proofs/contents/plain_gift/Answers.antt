@@ -5,10 +5,10 @@ use Rattle.std.proofs.lemmas.Result.{err_from_is_err_and}
 use Rattle.carrier_io.specs.Reads.{FaultOnly}
 use Rattle.carrier_io.proofs.Sides.{on_fault}
 use Rattle.carrier_model.specs.Grammar.{Means}
-use Rattle.carrier_model.specs.LegacyAttributes as ids
-use Rattle.carrier_model.specs.TnefLists.{prop_list, recipient_lists}
-use Rattle.carrier_model.specs.TnefMessage as plain
-use Rattle.carrier_model.specs.TnefMessage.{part}
+use Rattle.tnef_model.specs.LegacyAttributes as ids
+use Rattle.tnef_model.specs.TnefLists.{prop_list, recipient_lists}
+use Rattle.tnef_model.specs.TnefMessage as plain
+use Rattle.tnef_model.specs.TnefMessage.{part}
 use Rattle.tnef_props.specs.ReadLists.{list_seen}
 use Rattle.tnef_attributes.specs.Views.{view}
 use Rattle.tnef_message.specs.Contents.{objects_at, FailsPart}

@@ -2,7 +2,7 @@ use Rattle.std.proofs.Common.{◌≡◌, ◌<◌, ◌≤◌, ◌++◌, List, ℕ
 use Rattle.std.specs.List.{flat_map}
 use Rattle.carrier_io.specs.declared.failures.Failed.{Failed}
 use Rattle.carrier_model.specs.Bytes.{le16, le32, sum16}
-use Rattle.carrier_model.specs.TnefCanonical.{props_bytes}
+use Rattle.tnef_model.specs.TnefCanonical.{props_bytes}
 use Rattle.tnef_message.specs.Written.{list_alone, table_bytes, content_bytes}
 use Rattle.tnef_props.specs.Named.{HasNames}
 use Rattle.tnef_props.proofs.Summed.{sums_both, sums_first, sums_second, loop_more, loop_stops}

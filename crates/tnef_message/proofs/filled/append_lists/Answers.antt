@@ -1,7 +1,7 @@
 use Rattle.std.proofs.Common.{◌≡◌, ◌<◌, ◌≤◌, ◌++◌, List, ℕ, Err, length, refl, sym, ap, ◌∙◌, arith}
 use Rattle.std.specs.List.{flat_map}
 use Rattle.carrier_model.specs.Bytes.{le16, le32, sum16}
-use Rattle.carrier_model.specs.TnefCanonical.{props_bytes}
+use Rattle.tnef_model.specs.TnefCanonical.{props_bytes}
 use Rattle.tnef_message.specs.Written.{list_alone, table_bytes, content_bytes}
 use Rattle.tnef_props.specs.Named.{HasNames}
 use Rattle.tnef_props.proofs.Summed.{sums_both, sums_first, sums_second, loop_more, loop_stops}

@@ -1,7 +1,7 @@
 use Rattle.std.proofs.Common.{rules, ◌≡◌, ◌+◌, ◌++◌, ℕ, List, None, length, take, ap, refl, sym, arith, take_all, length-append, ◌∙◌}
 use Rattle.std.specs.List.{flat_map}
-use Rattle.carrier_model.specs.LegacyAttributes.{MESSAGE_PROPS}
-use Rattle.carrier_model.specs.TnefCanonical.{stream_of, list_bytes}
+use Rattle.tnef_model.specs.LegacyAttributes.{MESSAGE_PROPS}
+use Rattle.tnef_model.specs.TnefCanonical.{stream_of, list_bytes}
 use Rattle.carrier_model.specs.Totals.{capped}
 use Rattle.carrier_model.specs.Tree as plain
 use Rattle.carrier_model.proofs.Trees.{depth_at_le}

@@ -1,6 +1,6 @@
 use Rattle.std.proofs.Common.{◌≡◌, ℕ, List, ◌++◌, Some, length, ap, arith}
-use Rattle.carrier_model.specs.TnefCanonical.{stream_of}
-use Rattle.carrier_model.specs.TnefMessage.{IID_MESSAGE}
+use Rattle.tnef_model.specs.TnefCanonical.{stream_of}
+use Rattle.tnef_model.specs.TnefMessage.{IID_MESSAGE}
 use Rattle.carrier_model.specs.Totals.{capped}
 use Rattle.carrier_model.specs.Tree.{embedded}
 use Rattle.tnef_message.proofs.StreamParts.{attachment_length}

@@ -1,5 +1,5 @@
 use Rattle.std.proofs.Common.{◌≡◌, ◌<◌, length, ap, arith}
-use Rattle.carrier_model.specs.LegacyAttributes.{RECIPIENTS}
+use Rattle.tnef_model.specs.LegacyAttributes.{RECIPIENTS}
 use Rattle.tnef_message.specs.Written.{table_bytes}
 use Rattle.tnef_message.proofs.StreamParts.{attribute_length, no_recipients, some_recipients}
 use Rattle.tnef_message.proofs.sizes.recipients_size.Goals as goal

@@ -3,11 +3,11 @@ use Rattle.std.specs.Prelude.{replicate, All, filter}
 use Rattle.std.specs.List.{flat_map}
 use Rattle.std.proofs.lemmas.List.{append-nil}
 use Rattle.carrier_io.specs.declared.failures.Failed.{Failed}
-use Rattle.carrier_model.specs.Bytes.{le16, le32, sum16}
-use Rattle.carrier_model.specs.LegacyAttributes.{ATTACHMENT}
-use Rattle.carrier_model.specs.TnefCanonical.{attribute, stream_of, rendering_attribute, props_bytes, object_bytes, comes_before_object}
-use Rattle.carrier_model.specs.TnefLists.{pad4}
-use Rattle.carrier_model.specs.TnefMessage.{IID_MESSAGE}
+use Rattle.carrier_model.specs.Bytes.{le16, le32, sum16, pad4}
+use Rattle.tnef_model.specs.LegacyAttributes.{ATTACHMENT}
+use Rattle.tnef_model.specs.TnefCanonical.{attribute, stream_of, rendering_attribute, props_bytes, object_bytes}
+use Rattle.carrier_model.specs.Kinds.{comes_before_object}
+use Rattle.tnef_model.specs.TnefMessage.{IID_MESSAGE}
 use Rattle.carrier_model.specs.Totals.{capped}
 use Rattle.carrier_model.specs.Tree as plain
 use Rattle.carrier_model.specs.Values.{Prop}

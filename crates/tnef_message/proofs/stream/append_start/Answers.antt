@@ -2,8 +2,8 @@ use Rattle.std.proofs.Common.{◌≡◌, ◌+◌, ◌*◌, ◌<◌, ◌≤◌, �
 use Rattle.std.specs.List.{flat_map}
 use Rattle.carrier_io.specs.declared.failures.Failed.{Failed}
 use Rattle.carrier_model.specs.Bytes.{le16, le32, sum16}
-use Rattle.carrier_model.specs.LegacyAttributes.{RECIPIENTS, MESSAGE_PROPS, ATTACHMENT}
-use Rattle.carrier_model.specs.TnefCanonical.{front, page_attribute, recipients_attribute, props_attribute, list_bytes}
+use Rattle.tnef_model.specs.LegacyAttributes.{RECIPIENTS, MESSAGE_PROPS, ATTACHMENT}
+use Rattle.tnef_model.specs.TnefCanonical.{front, page_attribute, recipients_attribute, props_attribute, list_bytes}
 use Rattle.tnef_message.specs.Written.{list_alone, table_bytes, content_bytes, own_bytes}
 use Rattle.tnef_props.specs.Named.{HasNames}
 use Rattle.tnef_props.proofs.Summed.{sums_both, sums_first, sums_second, sums_nothing}

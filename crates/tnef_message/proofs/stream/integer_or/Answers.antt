@@ -1,6 +1,6 @@
 use Rattle.std.proofs.Common.{◌≡◌, ℕ, Option, Some, None, drop, ◌+◌, ap, sym, ◌∙◌}
 use Rattle.std.specs.Prelude.{unwrap_or}
-use Rattle.carrier_model.specs.TnefCanonical as canon
+use Rattle.tnef_model.specs.TnefCanonical as canon
 use Rattle.tnef_message.specs.Written.{picked}
 use Rattle.tnef_message.proofs.WrittenStreams.{integer_step}
 use Rattle.tnef_message.proofs.stream.integer_or.Goals as goal

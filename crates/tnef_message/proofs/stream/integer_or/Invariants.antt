@@ -1,5 +1,5 @@
 use Rattle.std.proofs.Common.{◌≡◌, drop}
-use Rattle.carrier_model.specs.TnefCanonical as canon
+use Rattle.tnef_model.specs.TnefCanonical as canon
 use Rattle.tnef_message.proofs.stream.integer_or.Given as goal
 
 abbrev pub invariant-loop-k : goal.invariant-loop-k

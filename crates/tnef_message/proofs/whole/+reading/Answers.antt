@@ -5,11 +5,12 @@ use Rattle.std.proofs.lemmas.Result.{err_from_is_err_and}
 use Rattle.carrier_io.specs.Reads.{FaultOnly}
 use Rattle.carrier_io.specs.Reasons.{fault_of}
 use Rattle.carrier_io.proofs.Sides.{on_fault}
-use Rattle.carrier_model.specs.Attributes.{Attrs}
+use Rattle.tnef_model.specs.Attributes.{Attrs}
 use Rattle.carrier_model.specs.Grammar.{Means}
-use Rattle.carrier_model.specs.TnefLists.{prop_list}
-use Rattle.carrier_model.specs.TnefMessage as plain
-use Rattle.carrier_model.specs.TnefMessage.{Meaning, message_within, with_inner}
+use Rattle.tnef_model.specs.TnefLists.{prop_list}
+use Rattle.tnef_model.specs.TnefMessage as plain
+use Rattle.carrier_model.specs.Meanings.{Meaning}
+use Rattle.tnef_model.specs.TnefMessage.{message_within, with_inner}
 use Rattle.carrier_model.specs.Tree.{embedded}
 use Rattle.msg_tree.specs.Meaning.{tree_of}
 use Rattle.tnef_props.specs.Meaning.{object_of}

@@ -1,6 +1,7 @@
 use Rattle.std.proofs.Common.{◌++◌, ap, ◌∙◌, arith}
 use Rattle.std.proofs.lemmas.Result.{err_from_is_err_and}
-use Rattle.carrier_model.specs.TnefMessage.{Meaning, GREATEST_LEVEL}
+use Rattle.carrier_model.specs.Meanings.{Meaning}
+use Rattle.carrier_model.specs.Tree.{GREATEST_LEVEL}
 use Rattle.msg_tree.specs.Meaning.{tree_of}
 use Rattle.tnef_message.proofs.Depths.{within_depth, stream_given, stream_stop}
 use Rattle.tnef_message.proofs.whole.read_tnef.Goals as goal

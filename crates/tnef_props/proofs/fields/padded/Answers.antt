@@ -1,6 +1,7 @@
 use Rattle.std.proofs.Common.{ℕ, List}
 use Rattle.carrier_model.specs.Grammar.{and_then, gives}
-use Rattle.carrier_model.specs.TnefLists.{raw, pad4}
+use Rattle.tnef_model.specs.TnefLists.{raw}
+use Rattle.carrier_model.specs.Bytes.{pad4}
 use Rattle.tnef_props.proofs.Forms.{then_takes, seen_takes}
 use Rattle.tnef_props.proofs.fields.padded.Goals as goal
 

@@ -1,7 +1,7 @@
 use Rattle.std.proofs.Common.{ℕ}
 use Rattle.std.proofs.lemmas.Result.{err_from_is_err_and}
 use Rattle.carrier_model.specs.Grammar.{placed}
-use Rattle.carrier_model.specs.TnefLists.{size, sized, padded}
+use Rattle.tnef_model.specs.TnefLists.{size, sized, padded}
 use Rattle.tnef_props.proofs.Forms.{then_takes, then_next, placed_takes}
 use Rattle.tnef_props.proofs.fields.sized.Goals as goal
 

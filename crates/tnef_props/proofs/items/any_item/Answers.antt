@@ -1,7 +1,7 @@
 use Rattle.std.proofs.Common.{ℕ}
 use Rattle.std.proofs.lemmas.Result.{IfOk-weaker, IfErr-weaker}
 use Rattle.carrier_model.specs.Grammar.{placed}
-use Rattle.carrier_model.specs.TnefLists.{any_item, described, tag}
+use Rattle.tnef_model.specs.TnefLists.{any_item, described, tag}
 use Rattle.tnef_props.specs.Meaning.{item_of}
 use Rattle.tnef_props.proofs.Forms.{then_takes, then_next, placed_takes}
 use Rattle.tnef_props.proofs.items.any_item.Goals as goal

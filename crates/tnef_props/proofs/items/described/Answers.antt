@@ -4,7 +4,7 @@ use Rattle.std.specs.Prelude.{nat_eq}
 use Rattle.std.proofs.lemmas.Result.{IfOk-weaker}
 use Rattle.carrier_model.specs.Grammar.{and_then, gives}
 use Rattle.carrier_model.specs.Keys.{Key}
-use Rattle.carrier_model.specs.TnefLists.{described, key, object, property, kept}
+use Rattle.tnef_model.specs.TnefLists.{described, key, object, property, kept}
 use Rattle.prop_names.specs.Meaning.{key_of}
 use Rattle.tnef_props.specs.Meaning.{item_of}
 use Rattle.tnef_props.specs.Steps.{Takes}

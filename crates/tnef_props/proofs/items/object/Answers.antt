@@ -1,7 +1,7 @@
 use Rattle.std.proofs.Common.{◌≡◌, ℕ, List, true, false, sym, ◌∙◌}
 use Rattle.std.specs.Prelude.{nat_eq, ◌&&◌}
 use Rattle.carrier_model.specs.Grammar.{and_then, gives, choice}
-use Rattle.carrier_model.specs.TnefLists.{object, one, sized, carried, passed}
+use Rattle.tnef_model.specs.TnefLists.{object, one, sized, carried, passed}
 use Rattle.tnef_props.proofs.Forms.{then_takes, seen_takes, left_takes, right_takes}
 use Rattle.tnef_props.proofs.items.object.Goals as goal
 

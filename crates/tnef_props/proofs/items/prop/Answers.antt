@@ -1,7 +1,7 @@
 use Rattle.carrier_model.specs.Grammar.{and_then, gives}
 use Rattle.carrier_model.specs.Keys.{Key}
 use Rattle.carrier_model.specs.Values.{Value, Prop}
-use Rattle.carrier_model.specs.TnefLists.{property, key, value}
+use Rattle.tnef_model.specs.TnefLists.{property, key, value}
 use Rattle.prop_names.specs.Meaning.{key_of}
 use Rattle.prop_values.specs.Kinds.{kind_number}
 use Rattle.tnef_props.specs.Shapes.{seen}

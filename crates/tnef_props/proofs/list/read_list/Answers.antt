@@ -3,7 +3,7 @@ use Rattle.std.specs.Option.{option_map}
 use Rattle.std.proofs.lemmas.Result.{err_from_is_err_and}
 use Rattle.carrier_io.specs.Reads.{OnFault}
 use Rattle.carrier_model.specs.Grammar.{Spans}
-use Rattle.carrier_model.specs.TnefLists.{PropList, prop_list}
+use Rattle.tnef_model.specs.TnefLists.{PropList, prop_list}
 use Rattle.tnef_props.specs.Meaning.{object_of}
 use Rattle.tnef_props.specs.ReadLists.{is_attachment}
 use Rattle.tnef_props.proofs.ReadForms.{list_alone, list_fault, spans_end}

@@ -2,7 +2,7 @@ use Rattle.std.specs.Prelude.{nat_lt}
 use Rattle.std.proofs.lemmas.Bool.{le-ltb}
 use Rattle.carrier_model.specs.Keys.{Name, id, named}
 use Rattle.carrier_model.specs.Grammar.{and_then, gives}
-use Rattle.carrier_model.specs.TnefLists.{name, key}
+use Rattle.tnef_model.specs.TnefLists.{name, key}
 use Rattle.prop_names.specs.Meaning.{name_of}
 use Rattle.tnef_props.proofs.Forms.{right_takes, seen_takes}
 use Rattle.tnef_props.proofs.names.key.Goals as goal

@@ -1,7 +1,7 @@
 use Rattle.std.specs.Prelude.{nat_eq}
 use Rattle.std.proofs.lemmas.Bool.{eq-eqb, ne_eqb}
 use Rattle.std.proofs.lemmas.Result.{err_from_is_err_and, IfOk-weaker, IfErr-weaker}
-use Rattle.carrier_model.specs.TnefLists.{name_number, name_text}
+use Rattle.tnef_model.specs.TnefLists.{name_number, name_text}
 use Rattle.prop_names.specs.Meaning.{name_of}
 use Rattle.tnef_props.proofs.Forms.{left_takes, left_refuses, right_takes, right_refuses}
 use Rattle.tnef_props.proofs.NameForms.{name_takes, name_refuses, kind_refuses}

@@ -4,7 +4,8 @@ use Rattle.std.proofs.lemmas.Bool.{le-leb}
 use Rattle.carrier_model.specs.Keys.{texted}
 use Rattle.carrier_model.specs.Reasons.{BAD_NAME_SIZE}
 use Rattle.carrier_model.specs.Grammar.{and_then, gives, such}
-use Rattle.carrier_model.specs.TnefLists.{name_units, name_text, raw, pad4}
+use Rattle.tnef_model.specs.TnefLists.{name_units, name_text, raw}
+use Rattle.carrier_model.specs.Bytes.{pad4}
 use Rattle.tnef_props.proofs.Forms.{then_takes, such_takes, seen_takes}
 use Rattle.tnef_props.proofs.names.name_text.Goals as goal
 

@@ -1,7 +1,9 @@
 use Rattle.std.proofs.Common.{◌≡◌, ℕ, List, sym, subst, ◌∙◌}
 use Rattle.std.proofs.lemmas.Result.{err_from_is_err_and}
 use Rattle.carrier_model.specs.Grammar.{and_then, gives}
-use Rattle.carrier_model.specs.TnefLists.{name_size, name_units, raw, units_of, without_null}
+use Rattle.tnef_model.specs.TnefLists.{name_size, name_units, raw}
+use Rattle.carrier_model.specs.Bytes.{units_of}
+use Rattle.carrier_model.specs.Kinds.{without_null}
 use Rattle.tnef_props.specs.Steps.{Takes}
 use Rattle.tnef_props.proofs.Forms.{then_takes, then_next, then_first, seen_takes}
 use Rattle.tnef_props.proofs.names.name_units.Goals as goal

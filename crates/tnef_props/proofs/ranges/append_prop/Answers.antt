@@ -1,5 +1,5 @@
 use Rattle.std.proofs.Common.{refl}
-use Rattle.carrier_model.specs.TnefCanonical.{value_bytes}
+use Rattle.tnef_model.specs.TnefCanonical.{value_bytes}
 use Rattle.prop_values.specs.Meaning.{value_of}
 use Rattle.tnef_props.proofs.Summed.{sums_both, sums_first, sums_second}
 use Rattle.tnef_props.proofs.ranges.append_prop.Goals as goal

@@ -1,5 +1,5 @@
 use Rattle.std.proofs.Common.{refl, arith}
-use Rattle.carrier_model.specs.TnefCanonical.{prop_bytes}
+use Rattle.tnef_model.specs.TnefCanonical.{prop_bytes}
 use Rattle.carrier_model.specs.Values.{Prop}
 use Rattle.tnef_props.specs.Named.{between, HasKey}
 use Rattle.tnef_props.proofs.PartsOfLists.{between_at}

@@ -1,6 +1,6 @@
 use Rattle.std.proofs.Common.{Ok, take}
 use Rattle.carrier_io.specs.declared.failures.Failed.{Failed}
-use Rattle.carrier_model.specs.TnefCanonical.{props_bytes}
+use Rattle.tnef_model.specs.TnefCanonical.{props_bytes}
 use Rattle.tnef_props.specs.Named.{between}
 use Rattle.tnef_props.specs.Summed.{Sums}
 use Rattle.tnef_props.proofs.ranges.append_range.Given as goal

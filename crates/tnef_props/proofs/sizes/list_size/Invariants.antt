@@ -2,7 +2,7 @@ use Rattle.std.proofs.Common.{◌≡◌, ℕ, ◌+◌, List, Option, length, tak
 use Rattle.std.specs.Option.{option_map}
 use Rattle.carrier_model.specs.Keys.{Name}
 use Rattle.carrier_model.specs.Totals.{capped}
-use Rattle.carrier_model.specs.TnefCanonical.{props_bytes}
+use Rattle.tnef_model.specs.TnefCanonical.{props_bytes}
 use Rattle.tnef_props.specs.Written.{object_length}
 use Rattle.tnef_props.proofs.sizes.list_size.Given as goal
 

@@ -1,6 +1,6 @@
 use Rattle.std.proofs.Common.{◌≡◌, drop}
 use Rattle.std.specs.Prelude.{nat_eq}
-use Rattle.carrier_model.specs.TnefLists.{le_number}
+use Rattle.carrier_model.specs.Bytes.{le_number}
 use Rattle.tnef_props.proofs.texts.is_zero.Given as goal
 
 abbrev pub invariant-loop-b : goal.invariant-loop-b

@@ -1,7 +1,8 @@
 use Rattle.std.proofs.Common.{◌≡◌, ℕ, List, Bool, sym, subst, ◌∙◌, ap}
 use Rattle.std.specs.Prelude.{nat_eq}
 use Rattle.prop_values.specs.Kinds.{kind_number}
-use Rattle.carrier_model.specs.TnefLists.{sized, text, null_of, without_null}
+use Rattle.tnef_model.specs.TnefLists.{sized, text}
+use Rattle.carrier_model.specs.Kinds.{null_of, without_null}
 use Rattle.tnef_props.specs.Steps.{Takes}
 use Rattle.tnef_props.proofs.Forms.{seen_takes}
 use Rattle.tnef_props.proofs.texts.text.Goals as goal

@@ -1,5 +1,5 @@
 use Rattle.std.proofs.Common.{◌≡◌, ◌*◌, take}
-use Rattle.carrier_model.specs.TnefLists.{units_of}
+use Rattle.carrier_model.specs.Bytes.{units_of}
 use Rattle.tnef_props.proofs.texts.units_from.Given as goal
 
 abbrev pub invariant-loop-k : goal.invariant-loop-k

@@ -3,7 +3,7 @@ use Rattle.std.proofs.lemmas.Result.{err_from_is_err_and}
 use Rattle.prop_values.specs.Kinds.{kind_number}
 use Rattle.carrier_model.specs.Grammar.{and_then, gives}
 use Rattle.carrier_model.specs.Values as plain
-use Rattle.carrier_model.specs.TnefLists.{one, value, text}
+use Rattle.tnef_model.specs.TnefLists.{one, value, text}
 use Rattle.tnef_props.proofs.Forms.{same_takes, same_refuses, then_takes, then_first, then_next, seen_takes}
 use Rattle.tnef_props.proofs.ValueForms.{value_bytes, text_valid}
 use Rattle.tnef_props.proofs.values.bytes_value.Goals as goal

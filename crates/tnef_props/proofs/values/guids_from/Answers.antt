@@ -1,6 +1,6 @@
 use Rattle.std.proofs.Common.{◌≡◌, ℕ, List, length, arith}
 use Rattle.std.proofs.lemmas.Result.{err_from_is_err_and}
-use Rattle.carrier_model.specs.TnefLists.{padded}
+use Rattle.tnef_model.specs.TnefLists.{padded}
 use Rattle.tnef_props.proofs.ValueForms.{padded_len, turns_begin, turns_more, turns_fault, turns_items, all_push}
 use Rattle.tnef_props.proofs.values.guids_from.Goals as goal
 

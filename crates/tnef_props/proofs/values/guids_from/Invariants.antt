@@ -1,5 +1,5 @@
 use Rattle.std.proofs.Common.{◌≡◌, ℕ, List, length, All}
-use Rattle.carrier_model.specs.TnefLists.{padded}
+use Rattle.tnef_model.specs.TnefLists.{padded}
 use Rattle.tnef_props.proofs.ValueForms.{Turns}
 use Rattle.tnef_props.proofs.values.guids_from.Given as goal
 

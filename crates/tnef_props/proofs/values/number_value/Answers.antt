@@ -2,7 +2,8 @@ use Rattle.std.proofs.Common.{ℕ, List, sym, subst}
 use Rattle.std.proofs.lemmas.Result.{err_from_is_err_and}
 use Rattle.prop_values.specs.Kinds.{kind_number}
 use Rattle.carrier_model.specs.Values as plain
-use Rattle.carrier_model.specs.TnefLists.{value, padded, bits_of}
+use Rattle.tnef_model.specs.TnefLists.{value, padded}
+use Rattle.carrier_model.specs.Kinds.{bits_of}
 use Rattle.tnef_props.specs.Steps.{Takes}
 use Rattle.tnef_props.proofs.Forms.{view_takes, view_refuses}
 use Rattle.tnef_props.proofs.ValueForms.{value_number}

@@ -1,6 +1,7 @@
 use Rattle.std.proofs.Common.{ℕ, [], ◌∷◌, ◌++◌, ◌*◌, ◌<◌, ◌^◌, ap, ◌∙◌, arith}
 use Rattle.std.proofs.lemmas.Result.{err_from_is_err_and}
-use Rattle.carrier_model.specs.TnefLists.{padded, le_number}
+use Rattle.tnef_model.specs.TnefLists.{padded}
+use Rattle.carrier_model.specs.Bytes.{le_number}
 use Rattle.tnef_props.proofs.ValueForms.{padded_len, turns_begin, turns_more, turns_fault, turns_numbers, numbers_refuse, all_push}
 use Rattle.tnef_props.proofs.values.numbers_from.Goals as goal
 

@@ -1,5 +1,6 @@
 use Rattle.std.proofs.Common.{◌*◌, ◌<◌, ◌^◌, All}
-use Rattle.carrier_model.specs.TnefLists.{padded, le_number}
+use Rattle.tnef_model.specs.TnefLists.{padded}
+use Rattle.carrier_model.specs.Bytes.{le_number}
 use Rattle.tnef_props.proofs.ValueForms.{Turns}
 use Rattle.tnef_props.proofs.values.numbers_from.Given as goal
 

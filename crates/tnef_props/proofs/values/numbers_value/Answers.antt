@@ -1,7 +1,7 @@
 use Rattle.std.proofs.lemmas.Result.{err_from_is_err_and}
 use Rattle.prop_values.specs.Kinds.{kind_number}
 use Rattle.carrier_model.specs.Values as plain
-use Rattle.carrier_model.specs.TnefLists.{value, numbers_of}
+use Rattle.tnef_model.specs.TnefLists.{value, numbers_of}
 use Rattle.tnef_props.proofs.Forms.{view_takes, view_refuses}
 use Rattle.tnef_props.proofs.ValueForms.{value_numbers}
 use Rattle.tnef_props.proofs.values.numbers_value.Goals as goal

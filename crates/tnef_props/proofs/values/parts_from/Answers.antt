@@ -2,7 +2,7 @@ use Rattle.std.proofs.Common.{ℕ, List, arith}
 use Rattle.std.proofs.lemmas.Result.{err_from_is_err_and}
 use Rattle.prop_values.specs.Kinds.{kind_number}
 use Rattle.carrier_model.specs.Values.{IsBytes}
-use Rattle.carrier_model.specs.TnefLists.{text}
+use Rattle.tnef_model.specs.TnefLists.{text}
 use Rattle.tnef_props.proofs.ValueForms.{text_valid, turns_begin, turns_more, turns_fault, turns_items, all_push}
 use Rattle.tnef_props.proofs.values.parts_from.Goals as goal
 

@@ -1,7 +1,7 @@
 use Rattle.std.proofs.Common.{ℕ, List, All}
 use Rattle.prop_values.specs.Kinds.{kind_number}
 use Rattle.carrier_model.specs.Values.{IsBytes}
-use Rattle.carrier_model.specs.TnefLists.{text}
+use Rattle.tnef_model.specs.TnefLists.{text}
 use Rattle.tnef_props.proofs.ValueForms.{Turns}
 use Rattle.tnef_props.proofs.values.parts_from.Given as goal
 

@@ -1,7 +1,7 @@
 use Rattle.std.proofs.lemmas.Result.{err_from_is_err_and}
 use Rattle.prop_values.specs.Kinds.{kind_number}
 use Rattle.carrier_model.specs.Values as plain
-use Rattle.carrier_model.specs.TnefLists.{value, text, many}
+use Rattle.tnef_model.specs.TnefLists.{value, text, many}
 use Rattle.tnef_props.proofs.Forms.{view_takes, view_refuses}
 use Rattle.tnef_props.proofs.ValueForms.{value_parts}
 use Rattle.tnef_props.proofs.values.parts_value.Goals as goal

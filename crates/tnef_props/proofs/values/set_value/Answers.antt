@@ -1,6 +1,6 @@
 use Rattle.std.proofs.lemmas.Result.{err_from_is_err_and}
 use Rattle.carrier_model.specs.Values as plain
-use Rattle.carrier_model.specs.TnefLists.{value, padded}
+use Rattle.tnef_model.specs.TnefLists.{value, padded}
 use Rattle.tnef_props.proofs.Forms.{view_takes, view_refuses}
 use Rattle.tnef_props.proofs.ValueForms.{value_guid}
 use Rattle.tnef_props.proofs.values.set_value.Goals as goal

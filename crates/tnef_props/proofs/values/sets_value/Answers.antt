@@ -1,6 +1,6 @@
 use Rattle.std.proofs.lemmas.Result.{err_from_is_err_and}
 use Rattle.carrier_model.specs.Values as plain
-use Rattle.carrier_model.specs.TnefLists.{value, padded, many}
+use Rattle.tnef_model.specs.TnefLists.{value, padded, many}
 use Rattle.tnef_props.proofs.Forms.{view_takes, view_refuses}
 use Rattle.tnef_props.proofs.ValueForms.{value_guids}
 use Rattle.tnef_props.proofs.values.sets_value.Goals as goal

@@ -1,5 +1,5 @@
 use Rattle.std.proofs.Common.{refl}
-use Rattle.carrier_model.specs.TnefCanonical.{name_bytes}
+use Rattle.tnef_model.specs.TnefCanonical.{name_bytes}
 use Rattle.prop_names.specs.Meaning.{name_of}
 use Rattle.tnef_props.proofs.Summed.{sums_both, sums_first, sums_second}
 use Rattle.tnef_props.proofs.writing_keys.append_named.Goals as goal

@@ -1,5 +1,5 @@
 use Rattle.std.proofs.Common.{◌∙◌}
-use Rattle.carrier_model.specs.Base64.{alphabet}
+use Rattle.mail_model.specs.Base64.{alphabet}
 use Rattle.mime_envelope.proofs.coder.Coder.new.Goals as goal
 
 pub invariant_of-result : goal.invariant_of-result

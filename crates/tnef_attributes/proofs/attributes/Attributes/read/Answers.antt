@@ -1,5 +1,5 @@
 use Rattle.std.proofs.Common.{sym, ◌∙◌, arith}
-use Rattle.carrier_model.proofs.Stream.{head_passes}
+use Rattle.tnef_model.proofs.Stream.{head_passes}
 use Rattle.tnef_attributes.proofs.Stream.{stream_reads}
 use Rattle.tnef_attributes.proofs.attributes.Attributes.read.Goals as goal
 

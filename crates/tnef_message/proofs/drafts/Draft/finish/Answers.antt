@@ -1,6 +1,6 @@
 use Rattle.std.proofs.Common.{List, ◌∙◌, ap, subst, sym}
 use Rattle.std.specs.Prelude.{All}
-use Rattle.carrier_model.specs.TnefMessage.{Read, joined}
+use Rattle.tnef_model.specs.TnefMessage.{Read, joined}
 use Rattle.msg_tree.specs.Meaning.{list_of}
 use Rattle.tnef_message.specs.Drafts.{IsDraft}
 use Rattle.tnef_message.specs.Sections.{HasId}

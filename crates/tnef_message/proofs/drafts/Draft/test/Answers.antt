@@ -1,6 +1,6 @@
 use Rattle.std.proofs.Common.{List, subst, Option}
-use Rattle.carrier_model.specs.LegacyAttributes.{MESSAGE_PROPS}
-use Rattle.carrier_model.specs.TnefMessage.{Read}
+use Rattle.tnef_model.specs.LegacyAttributes.{MESSAGE_PROPS}
+use Rattle.tnef_model.specs.TnefMessage.{Read}
 use Rattle.msg_tree.specs.Meaning.{list_of}
 use Rattle.tnef_attributes.specs.Views.{view}
 use Rattle.tnef_message.specs.Drafts.{IsDraft, IsAttached, OneOpen, NoneYet, body_of}

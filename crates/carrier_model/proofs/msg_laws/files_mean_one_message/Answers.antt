@@ -1,5 +1,0 @@
-use Rattle.carrier_model.proofs.MsgMessage.{files_exact}
-use Rattle.carrier_model.proofs.msg_laws.files_mean_one_message.Goals as goal
-
-pub returns : goal.returns
-returns c = λ root. files_exact root

@@ -1,5 +1,0 @@
-use Rattle.carrier_model.proofs.ReadMsgMessage.{msg_is_tree}
-use Rattle.carrier_model.proofs.msg_laws.msg_carriers_are_trees.Goals as goal
-
-pub returns : goal.returns
-returns c = msg_is_tree

@@ -1,5 +1,0 @@
-use Rattle.carrier_model.proofs.WrittenLists.{list_read}
-use Rattle.carrier_model.proofs.msg_laws.written_lists_are_read.Goals as goal
-
-pub returns : goal.returns
-returns c = λ part names place streams props inner few good known h. list_read part names place streams props inner few good known h

@@ -1,0 +1,15 @@
+//! What the commands take, refuse, write and say, as plain lists, numbers and finite trees. The definitions stand in specs/;
+//! each function here is a law about them and does nothing.
+#![tactic(auto)]
+
+mod job_laws;
+mod text_rows;
+
+pub use job_laws::{
+    files_within_the_limits_carry_their_message, jobs_are_exact, tnef_acceptance_is_exact,
+    trees_within_the_limits_are_carried,
+};
+pub use text_rows::{
+    commands_by_their_words, lines_of_ends, texts_of_one_property, the_first_sample,
+    the_text_of_a_store,
+};

@@ -1,0 +1,4 @@
+pub mod Entities
+pub mod EnvelopeText
+pub mod Lines
+pub mod Parameters

@@ -1,0 +1,5 @@
+pub mod Base64
+pub mod Entities
+pub mod Envelope
+pub mod EnvelopeText
+pub mod Lines

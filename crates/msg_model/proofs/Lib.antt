@@ -1,0 +1,17 @@
+pub mod MsgMessage
+pub mod MsgProps
+pub mod MsgSteps
+pub mod NameMap
+pub mod NumberedLaws
+pub mod ReadMsg
+pub mod ReadMsgMessage
+pub mod WrittenChildren
+pub mod WrittenFile
+pub mod WrittenFileNames
+pub mod WrittenFits
+pub mod WrittenLists
+pub mod WrittenMessages
+pub mod WrittenNames
+pub mod WrittenTop
+pub mod WrittenTrees
+pub mod WrittenValues

@@ -1,0 +1,12 @@
+pub mod Attributes
+pub mod CanonicalKinds
+pub mod CanonicalLists
+pub mod CanonicalTnef
+pub mod CanonicalValues
+pub mod ReadAttributes
+pub mod ReadLists
+pub mod ReadTnef
+pub mod ReadValues
+pub mod Stream
+pub mod TnefLists
+pub mod TnefMessage
