@@ -1,7 +1,9 @@
-ghost use Rattle.std.specs.Prelude.{◌≡◌, ◌↔◌, ℕ, Some, None, IfSome};
+ghost use Rattle.std.specs.Prelude.{◌≡◌, ◌↔◌, ◌+◌, ℕ, Some, None, IfSome};
 ghost use Rattle.std.specs.Io.KnownBytes.{IsAtEnd};
 ghost use Rattle.carrier_io.specs.Causes.{Rose};
+ghost use Rattle.carrier_io.specs.Known.{Takes};
 ghost use Rattle.job_model.specs.Jobs.{IsJob, Accepts, FaultOf};
+ghost use Rattle.carrier_model.specs.Bytes.{MOST_BYTES};
 ghost use Rattle.carrier_model.specs.Limits as limits;
 ghost use Rattle.carrier_model.specs.Meanings.{Meaning};
 ghost use Rattle.outlook_cli.specs.Words.{texts};
@@ -21,6 +23,7 @@ const LIMIT: usize = 268_435_456;
 /// Reads all of the input and translates it.
 fn to_tnef<I: Source, O: Sink>(alloc: Global, input: &mut I, output: &mut O) -> Status
     ensures told { IfSome (I.left input.old) (λ bytes. Tells result bytes (O.held output.old) (O.held output.new)) }
+    ensures asked { Takes (I.left input.old) (I.left input.new) (MOST_BYTES + 1) }
     ensures end { result ≡ Status.Done → IsAtEnd (I.left input.new) }
     ensures nothing { WritesNothing result output.old output.new }
     ensures read_fault { result ≡ Status.ReadFault → Rose (I.faults input.old) (I.faults input.new) }
@@ -51,6 +54,7 @@ fn answer<I: Source, O: Sink>(
     ensures done { IsJob (texts words.now) → IfSome (I.left input.old) (λ bytes. (m : Meaning) → Accepts bytes m → stream_limit m.message ≡ None → IsDone result) }
     ensures unfit { IsJob (texts words.now) → IfSome (I.left input.old) (λ bytes. (m : Meaning) (limit : limits.Limit) → Accepts bytes m → stream_limit m.message ≡ Some limit → IsUnfit limit result) }
     ensures refused { IsJob (texts words.now) → IfSome (I.left input.old) (λ bytes. (g : ℕ × ℕ) → FaultOf bytes g → IsRefused g result) }
+    ensures asked { Takes (I.left input.old) (I.left input.new) (MOST_BYTES + 1) }
     ensures end { result ≡ Status.Done → IsAtEnd (I.left input.new) }
     ensures nothing { WritesNothing result output.old output.new }
     ensures read_fault { result ≡ Status.ReadFault → Rose (I.faults input.old) (I.faults input.new) }
@@ -80,6 +84,7 @@ pub fn run<I: Source, O: Sink, E: Sink>(
     ensures unfit { IsJob (texts words.now) → IfSome (I.left input.old) (λ bytes. (m : Meaning) (limit : limits.Limit) → Accepts bytes m → stream_limit m.message ≡ Some limit → IsUnfit limit result) }
     ensures refused { IsJob (texts words.now) → IfSome (I.left input.old) (λ bytes. (g : ℕ × ℕ) → FaultOf bytes g → IsRefused g result) }
     ensures end { result ≡ Status.Done → IsAtEnd (I.left input.new) }
+    ensures asked { Takes (I.left input.old) (I.left input.new) (MOST_BYTES + 1) }
 
     // What excuses it, and that nothing is written but by Done and WriteFault.
     ensures nothing { WritesNothing result output.old output.new }
