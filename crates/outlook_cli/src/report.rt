@@ -4,7 +4,7 @@ ghost use Rattle.carrier_io.specs.Known.{Writes};
 ghost use Rattle.outlook_cli.specs.Report.{line_of, refusal_line, limit_line, limit_name as name_of_limit, counted_in as number_in};
 
 use crate::status::Status;
-use carrier_io::{Failed, Fault, Sink, write_parts, write_pieces};
+use carrier_io::{Failed, Fault, Sink, Writing, write_gathered, write_parts, write_pieces};
 use msg_tree::Limit;
 
 /// Appends the digits of a number.
@@ -62,8 +62,8 @@ fn write_limit<W: Sink>(sink: &mut W, limit: Limit) -> Result<(), Failed>
     write_pieces(sink, b"\n")
 }
 
-/// Appends the line of a status.
-pub fn write_report<W: Sink>(sink: &mut W, status: Status) -> Result<(), Failed>
+/// Appends the line of a status, part by part.
+fn write_line<W: Sink>(sink: &mut W, status: Status) -> Result<(), Failed>
     ensures { Writes (W.held sink.old) (W.held sink.new) (W.faults sink.old) (W.faults sink.new) result (line_of status) }
 {
     match status {
@@ -78,4 +78,27 @@ pub fn write_report<W: Sink>(sink: &mut W, status: Status) -> Result<(), Failed>
         Status::WriteFault => write_pieces(sink, b"write fault\n"),
         Status::NoMemory => write_pieces(sink, b"no memory\n"),
     }
+}
+
+/// The line of a status, as it is appended.
+#[derive(Drop)]
+struct Line {
+    status: Status,
+}
+
+impl Writing for Line {
+    ghost use Rattle.outlook_cli.specs.Report.{line_of};
+
+    ghost text = { λ l. line_of l.status };
+
+    fn write_to<W: Sink>(&self, sink: &mut W) -> Result<(), Failed> {
+        write_line(sink, self.status)
+    }
+}
+
+/// Appends the line of a status, in one call of the sink.
+pub fn write_report<W: Sink>(sink: &mut W, status: Status) -> Result<(), Failed>
+    ensures { Writes (W.held sink.old) (W.held sink.new) (W.faults sink.old) (W.faults sink.new) result (line_of status) }
+{
+    write_gathered(&Line { status }, sink)
 }
