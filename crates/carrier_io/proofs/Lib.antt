@@ -3,3 +3,5 @@ pub mod Joined
 pub mod Known
 mod Rest
 pub mod Sides
+pub mod Summed
+pub mod Going

@@ -8,3 +8,4 @@ pub mod Pieces
 pub mod Reads
 pub mod Reasons
 pub mod Steps
+pub mod Summed

@@ -18,7 +18,7 @@ use Rattle.carrier_model.specs.FileTrees.{Store}
 use Rattle.carrier_model.specs.Kinds.{ATTACHED_OBJECT}
 use Rattle.carrier_model.specs.Meanings.{Passed, Meaning, Held, held_message, held_store}
 use Rattle.msg_model.specs.NameMap.{NameStreams, Pair, pairs_of, NamePairs}
-use Rattle.msg_model.specs.WrittenNames.{value_name}
+use Rattle.msg_model.specs.StreamNames.{value_name}
 use Rattle.carrier_model.specs.Stores.{PROPERTIES, store_in, StoreMeans}
 use Rattle.msg_model.specs.MsgValues.{Streams}
 use Rattle.msg_model.specs.MsgProps.{Part, top, embedded_message, recipient, attachment, Section, props_of, MsgProps}

@@ -10,7 +10,8 @@ use Rattle.carrier_model.specs.Keys.{Name, Key, id, named, id_of}
 use Rattle.carrier_model.specs.Kinds.{comes_before_object, null_of}
 use Rattle.carrier_model.specs.Tree.{Message, message, Attachments, no_more, attached, Body, nothing, embedded, stored, listed, names_of}
 use Rattle.carrier_model.specs.Values.{Value, number, guid, bytes, numbers, guids, parts, Prop, kind_of, number_widths, numbers_widths, width_in}
-use Rattle.msg_model.specs.WrittenNames.{value_name, name_map_files}
+use Rattle.msg_model.specs.StreamNames.{value_name}
+use Rattle.msg_model.specs.WrittenNames.{name_map_files}
 
 -- ---- tags
 

@@ -5,7 +5,7 @@ use Rattle.std.proofs.lemmas.Bool.{leb-true, le-leb, eqb-true, eq-eqb}
 use Rattle.carrier_model.specs.Trail.{first_fault}
 use Rattle.carrier_model.specs.Bytes.{AllBytes, number16, number32, le16, le32, sum16}
 use Rattle.carrier_model.specs.Items.{Begins}
-use Rattle.tnef_model.specs.Attributes.{Attr, is_level, spelling, IsAttr, attr_len, attr_tests, attrs, attr, attr_of, after_attr}
+use Rattle.tnef_model.specs.Attributes.{Attr, is_level, spelling, IsAttr, attr_len, attr_tests, attrs, attr}
 use Rattle.carrier_model.proofs.Numbers.{AllBytes-drop, number32-le32, number16-le16, number32-front, number16-front, number32-below, sum16-below}
 use Rattle.carrier_model.proofs.Items.{Lawful}
 use Rattle.carrier_model.proofs.Tests.{passed, passing}

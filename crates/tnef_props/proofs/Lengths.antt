@@ -11,7 +11,7 @@ use Rattle.carrier_model.specs.Kinds.{comes_before_object}
 use Rattle.carrier_model.specs.Totals.{capped}
 use Rattle.carrier_model.specs.Values.{Prop}
 use Rattle.tnef_props.specs.Written.{HasWidth, text_field, object_length}
-use Rattle.tnef_props.proofs.Summed.{flat_map_more}
+use Rattle.carrier_io.proofs.Summed.{flat_map_more}
 use Rattle.tnef_props.proofs.WrittenValues.{nulled_length}
 use Rattle.tnef_props.proofs.WrittenKeys.{units_length}
 

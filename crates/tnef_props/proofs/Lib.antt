@@ -6,7 +6,6 @@ pub mod KindNumbers
 pub mod Doubles
 pub mod ListForms
 pub mod ReadForms
-pub mod Summed
 pub mod WrittenValues
 pub mod WrittenKeys
 pub mod PartsOfLists

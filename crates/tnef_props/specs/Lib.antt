@@ -2,7 +2,6 @@ pub mod Meaning
 pub mod ReadLists
 pub mod Shapes
 pub mod Steps
-pub mod Summed
 pub mod Written
 pub mod Named
 pub mod Scans

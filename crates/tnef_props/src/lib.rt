@@ -1,7 +1,6 @@
 //! Property lists of a TNEF stream.
 #![tactic(auto)]
 
-mod appending;
 mod fields;
 mod items;
 mod list;
@@ -20,7 +19,7 @@ mod writing_values;
 pub use list::read_list;
 pub use object::{Object, ReadList};
 pub use object_places::object_place;
-pub use ranges::{range_sum, write_range};
+pub use ranges::{append_range, range_sum, write_range};
 pub use sizes::list_size;
 
 #[cfg(test)]

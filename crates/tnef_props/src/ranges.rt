@@ -3,7 +3,7 @@ ghost use Rattle.std.specs.Prelude.{◌≡◌, ◌≤◌, ◌-◌, length};
 ghost use Rattle.carrier_io.specs.Known.{Writes};
 ghost use Rattle.carrier_model.specs.Bytes.{sum16};
 ghost use Rattle.tnef_model.specs.TnefCanonical as canon;
-ghost use Rattle.tnef_props.specs.Summed.{Sums};
+ghost use Rattle.carrier_io.specs.Summed.{Sums};
 ghost use Rattle.tnef_props.specs.Named.{HasKey, HasNames, between};
 
 use crate::writing_keys::append_key;
@@ -27,8 +27,10 @@ fn append_prop<B: Blob, W: Sink>(
     Ok(key.wrapping_add(value))
 }
 
-/// Appends the properties from a place up to another, and answers the sum of their bytes.
-fn append_range<B: Blob, W: Sink>(
+/// Appends the properties from a place up to another, without that one, each with a name's id by its place among the
+/// names, and answers the sum of their bytes modulo 65,536. Failed says that the sink failed; then a front of the bytes
+/// may stand there. [MS-OXTNEF 2.1.3.4]
+pub fn append_range<B: Blob, W: Sink>(
     sink: &mut W,
     props: &Props<B>,
     names: &NameSet,
@@ -48,7 +50,7 @@ fn append_range<B: Blob, W: Sink>(
     Ok(sum)
 }
 
-/// The sum modulo 65,536 of the bytes that `write_range` appends.
+/// The sum modulo 65,536 of the bytes that `append_range` appends.
 pub fn range_sum<B: Blob>(props: &Props<B>, names: &NameSet, from: usize, to: usize) -> u16
     requires order { from ≤ to }
     requires within { to ≤ length props.now }
@@ -63,8 +65,8 @@ pub fn range_sum<B: Blob>(props: &Props<B>, names: &NameSet, from: usize, to: us
     }
 }
 
-/// Appends the properties from a place up to another, without that one, each with a name's id by its place among the
-/// names. Failed says that the sink failed; then a front of the bytes may stand there. [MS-OXTNEF 2.1.3.4]
+/// Appends what `append_range` does, without the sum. Failed says that the sink failed; then a front of the bytes may
+/// stand there.
 pub fn write_range<B: Blob, W: Sink>(
     sink: &mut W,
     props: &Props<B>,

@@ -1,4 +1,4 @@
-use crate::{list_size, object_place, range_sum, read_list, write_range};
+use crate::{append_range, list_size, object_place, range_sum, read_list, write_range};
 use carrier_io::{Fault, MemorySink, PassedList, Reason, Stop};
 use prop_names::{Key, Name, NameSet};
 use prop_values::{Kind, Part, Prop, Props, Value};
@@ -98,6 +98,7 @@ fn a_list_is_written(rt: HostRuntime) -> Result<(), Fail> {
     let wanted = [0x1f, 0, 0x34, 0x12, 1, 0, 0, 0, 4, 0, 0, 0, 0x41, 0, 0, 0];
     assert_eq!(rt; sink.bytes(), wanted.as_slice());
     assert_eq!(rt; range_sum(&props, &names, 0, 1), 0xab);
+    assert_eq!(rt; append_range(&mut sink, &props, &names, 0, 1), Ok(0xab));
     assert_eq!(rt;
         (list_size(&props, None), list_size(&props, Some(16))),
         (20, 48)

@@ -6,11 +6,10 @@ ghost use Rattle.tnef_model.specs.TnefCanonical as canon;
 ghost use Rattle.carrier_model.specs.Bytes as octets;
 ghost use Rattle.carrier_model.specs.Keys as keys;
 ghost use Rattle.prop_names.specs.Meaning.{key_of, name_of};
-ghost use Rattle.tnef_props.specs.Summed.{Sums};
+ghost use Rattle.carrier_io.specs.Summed.{Sums};
 ghost use Rattle.tnef_props.specs.Named.{label_field, HasKey};
 
-use crate::appending::{append, append_zeros};
-use carrier_io::{Failed, Sink, Units, le16, le32, pad4};
+use carrier_io::{Failed, Sink, Units, append, append_zeros, le16, le32, pad4};
 use prop_names::{Key, Name, NameSet};
 
 /// Ids from here on stand for names.
@@ -54,7 +53,7 @@ fn append_padded_units<W: Sink>(sink: &mut W, units: &Units) -> Result<u16, Fail
     ensures { Sums (W.held sink.old) (W.held sink.new) (W.faults sink.old) (W.faults sink.new) result (canon.zero_padded (octets.unit_bytes (units.now ++ 0 ∷ []))) }
 {
     let text = append_units(sink, units)?;
-    let zeros = append_zeros(sink, 2 + pad4(2 * (units.len() as u64 + 1)) as usize)?;
+    let zeros = append_zeros(sink, 2 + pad4(2 * (units.len() as u64 + 1)))?;
     Ok(text.wrapping_add(zeros))
 }
 

@@ -5,12 +5,13 @@ ghost use Rattle.carrier_model.specs.Kinds as kinds;
 ghost use Rattle.carrier_model.specs.Values as plain;
 ghost use Rattle.prop_values.specs.Kinds.{kind_number};
 ghost use Rattle.prop_values.specs.Meaning.{value_of};
-ghost use Rattle.tnef_props.specs.Summed.{Sums};
+ghost use Rattle.carrier_io.specs.Summed.{Sums};
 ghost use Rattle.tnef_props.specs.Written.{HasWidth, Fits, number_field, text_field, count_field, counted, content_field};
 
-use crate::appending::{append, append_blob, append_zeros};
 use crate::texts::null_size;
-use carrier_io::{Blob, Failed, Numbers, Sink, le32, le64, pad4};
+use carrier_io::{
+    Blob, Failed, Numbers, Sink, append, append_blob, append_zeros, le32, le64, pad4,
+};
 use prop_values::{Guids, Kind, Parts, Value};
 
 /// Whether a number of the kind, or each of several, has eight bytes. Every other has two or four.
@@ -63,7 +64,7 @@ fn append_padded<B: Blob, W: Sink>(sink: &mut W, null: usize, text: &B) -> Resul
     ensures { Sums (W.held sink.old) (W.held sink.new) (W.faults sink.old) (W.faults sink.new) result (canon.zero_padded (B.bytes text.now ++ replicate null 0)) }
 {
     let bytes = append_blob(sink, text)?;
-    let zeros = append_zeros(sink, null + pad4((text.len() + null) as u64) as usize)?;
+    let zeros = append_zeros(sink, null as u64 + pad4((text.len() + null) as u64))?;
     Ok(bytes.wrapping_add(zeros))
 }
 

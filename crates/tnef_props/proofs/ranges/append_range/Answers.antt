@@ -3,7 +3,7 @@ use Rattle.tnef_model.specs.TnefCanonical.{prop_bytes}
 use Rattle.carrier_model.specs.Values.{Prop}
 use Rattle.tnef_props.specs.Named.{between, HasKey}
 use Rattle.tnef_props.proofs.PartsOfLists.{between_at}
-use Rattle.tnef_props.proofs.Summed.{loop_more, loop_stops}
+use Rattle.carrier_io.proofs.Summed.{loop_more, loop_stops}
 use Rattle.tnef_props.proofs.WrittenValues.{all_at}
 use Rattle.tnef_props.proofs.ranges.append_range.Goals as goal
 

@@ -2,7 +2,7 @@ use Rattle.std.proofs.Common.{Ok, take}
 use Rattle.carrier_io.specs.declared.failures.Failed.{Failed}
 use Rattle.tnef_model.specs.TnefCanonical.{props_bytes}
 use Rattle.tnef_props.specs.Named.{between}
-use Rattle.tnef_props.specs.Summed.{Sums}
+use Rattle.carrier_io.specs.Summed.{Sums}
 use Rattle.tnef_props.proofs.ranges.append_range.Given as goal
 
 abbrev pub invariant-loop-k : goal.invariant-loop-k

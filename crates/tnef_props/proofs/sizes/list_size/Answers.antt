@@ -1,7 +1,7 @@
 use Rattle.std.proofs.Common.{length, take, ap, arith, take_all, length-append}
 use Rattle.tnef_model.specs.TnefCanonical.{props_bytes, prop_bytes}
 use Rattle.tnef_props.proofs.Lengths.{list_length}
-use Rattle.tnef_props.proofs.Summed.{flat_map_more}
+use Rattle.carrier_io.proofs.Summed.{flat_map_more}
 use Rattle.tnef_props.proofs.sizes.list_size.Goals as goal
 
 pub loop-k-init : goal.loop-k-init

@@ -1,7 +1,7 @@
 use Rattle.std.proofs.Common.{refl}
 use Rattle.prop_names.specs.Meaning.{name_of}
 use Rattle.tnef_props.specs.Named.{label_field}
-use Rattle.tnef_props.proofs.Summed.{sums_both, sums_first, sums_second}
+use Rattle.carrier_io.proofs.Summed.{sums_both, sums_first, sums_second}
 use Rattle.tnef_props.proofs.WrittenKeys.{name_parts}
 use Rattle.tnef_props.proofs.writing_keys.append_name.Goals as goal
 

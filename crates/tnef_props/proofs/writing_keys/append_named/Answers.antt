@@ -1,7 +1,7 @@
 use Rattle.std.proofs.Common.{refl}
 use Rattle.tnef_model.specs.TnefCanonical.{name_bytes}
 use Rattle.prop_names.specs.Meaning.{name_of}
-use Rattle.tnef_props.proofs.Summed.{sums_both, sums_first, sums_second}
+use Rattle.carrier_io.proofs.Summed.{sums_both, sums_first, sums_second}
 use Rattle.tnef_props.proofs.writing_keys.append_named.Goals as goal
 
 pub returns-in_err-tag : goal.returns-in_err-tag

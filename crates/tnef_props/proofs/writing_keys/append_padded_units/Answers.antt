@@ -1,7 +1,7 @@
 use Rattle.std.proofs.Common.{◌++◌, length, refl, arith}
 use Rattle.std.specs.Prelude.{replicate}
 use Rattle.carrier_model.specs.Bytes.{unit_bytes, pad4}
-use Rattle.tnef_props.proofs.Summed.{sums_both, sums_first, sums_second}
+use Rattle.carrier_io.proofs.Summed.{sums_both, sums_first, sums_second}
 use Rattle.tnef_props.proofs.WrittenKeys.{units_padded, units_open}
 use Rattle.tnef_props.proofs.writing_keys.append_padded_units.Goals as goal
 

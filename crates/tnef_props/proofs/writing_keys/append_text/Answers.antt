@@ -1,7 +1,7 @@
 use Rattle.std.proofs.Common.{◌++◌, [], ◌∷◌, refl, ◌∙◌, arith}
 use Rattle.tnef_model.specs.TnefCanonical.{zero_padded}
 use Rattle.carrier_model.specs.Bytes.{unit_bytes}
-use Rattle.tnef_props.proofs.Summed.{sums_both, sums_first, sums_second}
+use Rattle.carrier_io.proofs.Summed.{sums_both, sums_first, sums_second}
 use Rattle.tnef_props.proofs.WrittenKeys.{units_size}
 use Rattle.tnef_props.proofs.writing_keys.append_text.Goals as goal
 

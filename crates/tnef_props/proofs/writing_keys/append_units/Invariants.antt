@@ -1,7 +1,7 @@
 use Rattle.std.proofs.Common.{Ok, take}
 use Rattle.carrier_io.specs.declared.failures.Failed.{Failed}
 use Rattle.carrier_model.specs.Bytes.{unit_bytes}
-use Rattle.tnef_props.specs.Summed.{Sums}
+use Rattle.carrier_io.specs.Summed.{Sums}
 use Rattle.tnef_props.proofs.writing_keys.append_units.Given as goal
 
 abbrev pub invariant-loop-k : goal.invariant-loop-k

@@ -1,5 +1,5 @@
 use Rattle.std.proofs.Common.{ℕ, List, refl}
-use Rattle.tnef_props.proofs.Summed.{loop_more, loop_stops}
+use Rattle.carrier_io.proofs.Summed.{loop_more, loop_stops}
 use Rattle.tnef_props.proofs.writing_values.append_guids.Goals as goal
 
 pub returns-in_err-sum : goal.returns-in_err-sum

@@ -1,7 +1,7 @@
 use Rattle.std.proofs.Common.{ℕ, ◌++◌, length, refl, arith}
 use Rattle.std.specs.Prelude.{replicate}
 use Rattle.carrier_model.specs.Bytes.{pad4}
-use Rattle.tnef_props.proofs.Summed.{sums_both, sums_first, sums_second}
+use Rattle.carrier_io.proofs.Summed.{sums_both, sums_first, sums_second}
 use Rattle.tnef_props.proofs.WrittenValues.{padded_open, padded_parts}
 use Rattle.tnef_props.proofs.writing_values.append_padded.Goals as goal
 

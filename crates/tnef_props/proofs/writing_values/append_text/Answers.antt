@@ -1,7 +1,7 @@
 use Rattle.std.proofs.Common.{◌++◌, refl, ◌∙◌, arith}
 use Rattle.std.specs.Prelude.{replicate}
 use Rattle.tnef_model.specs.TnefCanonical.{zero_padded}
-use Rattle.tnef_props.proofs.Summed.{sums_both, sums_first, sums_second}
+use Rattle.carrier_io.proofs.Summed.{sums_both, sums_first, sums_second}
 use Rattle.tnef_props.proofs.WrittenValues.{text_size}
 use Rattle.tnef_props.proofs.writing_values.append_text.Goals as goal
 

@@ -1,6 +1,6 @@
 use Rattle.std.proofs.Common.{refl}
 use Rattle.tnef_props.specs.Written.{text_field}
-use Rattle.tnef_props.proofs.Summed.{loop_more, loop_stops}
+use Rattle.carrier_io.proofs.Summed.{loop_more, loop_stops}
 use Rattle.tnef_props.proofs.writing_values.append_texts.Goals as goal
 
 pub returns-in_err-sum : goal.returns-in_err-sum

@@ -1,7 +1,7 @@
 use Rattle.std.proofs.Common.{refl}
 use Rattle.prop_values.specs.Meaning.{value_of}
 use Rattle.tnef_props.specs.Written.{content_field}
-use Rattle.tnef_props.proofs.Summed.{sums_both, sums_first, sums_second}
+use Rattle.carrier_io.proofs.Summed.{sums_both, sums_first, sums_second}
 use Rattle.tnef_props.proofs.WrittenValues.{value_parts}
 use Rattle.tnef_props.proofs.writing_values.append_value.Goals as goal
 

@@ -11,8 +11,7 @@ use Rattle.std.proofs.lemmas.Option.{slice_get_within, get_or_from_slice_get}
 use Rattle.carrier_io.specs.Known.{Writes}
 use Rattle.carrier_io.specs.Pieces.{joined}
 use Rattle.carrier_io.proofs.Known.{did, did_nothing, done, andthen, failing, flat_map-at}
-use Rattle.carrier_model.specs.Bytes.{sum16}
-use Rattle.tnef_props.specs.Summed.{Sums}
+use Rattle.carrier_io.specs.Summed.{IsSumOf, Sums}
 
 fold_from : (a : ℕ) (xs : List ℕ) → fold ◌+◌ a xs ≡ a + fold ◌+◌ 0 xs
 fold_from a [] = omega arith
@@ -21,12 +20,12 @@ fold_from a (x ∷ xs) = omega (arith, fold_from (a + x) xs, fold_from (0 + x) x
 pub sum-append : (xs ys : List ℕ) → sum (xs ++ ys) ≡ sum xs + sum ys
 sum-append xs ys = fold-append ◌+◌ 0 xs ys ∙ fold_from (sum xs) ys
 
-pub sum16-append : (xs ys : List ℕ) → sum16 (xs ++ ys) ≡ (sum16 xs + sum16 ys) % 65536
-sum16-append xs ys = omega (arith, sum-append xs ys)
+pub sums-append : (xs ys : List ℕ) → sum (xs ++ ys) % 65536 ≡ (sum xs % 65536 + sum ys % 65536) % 65536
+sums-append xs ys = omega (arith, sum-append xs ys)
 
 -- two sums of two lists
-pub sum16-both : (x y : List ℕ) (s t r : ℕ) → s ≡ sum16 x → t ≡ sum16 y → r ≡ (s + t) % 65536 → r ≡ sum16 (x ++ y)
-sum16-both x y s t r p q e = rw (p, q) at e ∙ sym (sum16-append x y)
+pub sums-both : (x y : List ℕ) (s t r : ℕ) → IsSumOf x s → IsSumOf y t → r ≡ (s + t) % 65536 → IsSumOf (x ++ y) r
+sums-both x y s t r p q e = rw (p, q) at e ∙ sym (sums-append x y)
 
 pub sums_nothing : {E : Type 0} (a : Option (List ℕ)) (n : ℕ) → Sums {E = E} a a n n (Ok 0) []
 sums_nothing a n = record { writes = done a a n n [] (did_nothing a n); sum = refl }
@@ -35,7 +34,7 @@ sums_nothing a n = record { writes = done a a n n [] (did_nothing a n); sum = re
 pub sums_both : {E F G : Type 0} {a b c : Option (List ℕ)} {n m k s t : ℕ} {x y : List ℕ} (r : ℕ) → r ≡ (s + t) % 65536 → Sums {E = E} a b n m (Ok s) x → Sums {E = F} b c m k (Ok t) y → Sums {E = G} a c n k (Ok r) (x ++ y)
 sums_both {E} {F} {G} {a} {b} {c} {n} {m} {k} {s} {t} {x} {y} r e p q = record {
   writes = andthen p.writes (done b c m k y (did b c m k y q.writes));
-  sum = sum16-both x y s t r p.sum q.sum e;
+  sum = sums-both x y s t r p.sum q.sum e;
 }
 
 -- the exit by `?` of the first of two calls
@@ -71,7 +70,7 @@ loop_stops {X} {E} {F} {G} {a} {b} {c} {n} {m} {l} {s} {r} {e} f xs k x at err p
 
 -- ---- a piece by itself
 
-pub sums_written : {E F : Type 0} {a b : Option (List ℕ)} {n m s : ℕ} {x : List ℕ} → Writes {E = E} a b n m (Ok tt) x → s ≡ sum16 x → Sums {E = F} a b n m (Ok s) x
+pub sums_written : {E F : Type 0} {a b : Option (List ℕ)} {n m s : ℕ} {x : List ℕ} → Writes {E = E} a b n m (Ok tt) x → IsSumOf x s → Sums {E = F} a b n m (Ok s) x
 sums_written {E} {F} {a} {b} {n} {m} {s} {x} w e = record { writes = done a b n m x (did a b n m x w); sum = e }
 
 pub sums_unwritten : {E F : Type 0} {a b : Option (List ℕ)} {n m : ℕ} {r : Result ℕ F} {e : E} {x : List ℕ} → IsErr r → Writes {E = E} a b n m (Err e) x → Sums {E = F} a b n m r x

@@ -1,5 +1,5 @@
-use Rattle.tnef_props.proofs.Summed.{sums_written, sums_unwritten}
-use Rattle.tnef_props.proofs.appending.append.Goals as goal
+use Rattle.carrier_io.proofs.Summed.{sums_written, sums_unwritten}
+use Rattle.carrier_io.proofs.summing.append.Goals as goal
 
 pub returns-in_err-write_pieces : goal.returns-in_err-write_pieces
 returns-in_err-write_pieces g c = sums_unwritten c.from_residual.ensures.0 c.in_err-write_pieces.ensures
