@@ -8,13 +8,13 @@ use Rattle.carrier_model.specs.Reasons.{BAD_PROP_STREAM, DUPLICATE_PROPERTY, MIS
 use Rattle.carrier_model.specs.Sorted.{with_elements}
 use Rattle.carrier_model.specs.Values.{Prop, prop_cmp}
 use Rattle.carrier_model.specs.Lists.{first_of_list}
-use Rattle.carrier_model.specs.Turns.{in_turn, AllGive, found}
+use Rattle.carrier_model.specs.Turns.{in_turn, found}
+use Rattle.carrier_model.proofs.Turns.{AllGive, ok_same, bind_ok, bind_from, check_ok, check_from, found_ok, in_turn-sound, in_turn-only}
 use Rattle.msg_model.specs.NameMap.{Pair}
 use Rattle.carrier_model.specs.Lookups.{size_place}
 use Rattle.carrier_model.specs.Stores.{PROPERTIES}
 use Rattle.msg_model.specs.MsgValues.{Streams, PropEntry}
 use Rattle.msg_model.specs.MsgProps.{Part, head_size, prop_entries, Item, kept, passed, embedding, item_of, is_double, is_new, next_item, prop_in, embedding_in, Section, section_of, props_of, option_list, MsgProps}
-use Rattle.carrier_model.proofs.Turns.{ok_same, bind_ok, bind_from, check_ok, check_from, found_ok, in_turn-sound, in_turn-only}
 use Rattle.carrier_model.proofs.Orders.{prop_total}
 use Rattle.carrier_model.proofs.SortedLists.{same_sorted}
 use Rattle.carrier_model.proofs.SortedElements.{equal_by, equal_flips, permuted_distinct, elements_good}

@@ -10,9 +10,9 @@ use Rattle.carrier_model.specs.Chains.{member}
 use Rattle.carrier_model.specs.Sectors.{u32_of}
 use Rattle.carrier_model.specs.Streams.{Stream}
 use Rattle.carrier_model.specs.Keys.{Name, numbered, texted}
-use Rattle.carrier_model.specs.Turns.{in_turn, AllGive}
+use Rattle.carrier_model.specs.Turns.{in_turn}
+use Rattle.carrier_model.proofs.Turns.{AllGive, ok_same, bind_ok, bind_from, check_ok, check_from, mapped_ok, in_turn-sound, in_turn-only}
 use Rattle.msg_model.specs.NameMap.{NameStreams, NameEntry, name_entries, is_text, set_index, property_index, set_at, has_set, is_text_size, text_at, name_of, Given, named_by, is_new_index, given_by, Pair, pair_in, pairs_of, IsTextAt, StandsFor, ArePairs, NamePairs}
-use Rattle.carrier_model.proofs.Turns.{ok_same, bind_ok, bind_from, check_ok, check_from, mapped_ok, in_turn-sound, in_turn-only}
 use Rattle.carrier_model.proofs.Apart.{distinct-append, distinct-split}
 
 -- ---- one text, one name

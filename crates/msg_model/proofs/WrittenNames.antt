@@ -13,7 +13,8 @@ use Rattle.carrier_model.specs.Chains.{member}
 use Rattle.carrier_model.specs.Sectors.{u32_of}
 use Rattle.carrier_model.specs.Keys.{Name, numbered, texted, IsName, set_of}
 use Rattle.carrier_model.specs.Trees.{HasUnits}
-use Rattle.carrier_model.specs.Turns.{in_turn, AllGive}
+use Rattle.carrier_model.specs.Turns.{in_turn}
+use Rattle.carrier_model.proofs.Turns.{AllGive, in_turn-only}
 use Rattle.carrier_model.specs.Outcomes.{mapped}
 use Rattle.msg_model.specs.WrittenNames.{PS_MAPI, PS_PUBLIC_STRINGS, is_fixed_set, sets_of, set_index, name_units, text_entry, text_of, text_stream, label_number, kind_bit, name_word, entries_from}
 use Rattle.msg_model.specs.NameMap as read
@@ -21,7 +22,6 @@ use Rattle.msg_model.specs.ReadBack.{AreNames, HasNameMap}
 use Rattle.msg_model.specs.NameMap.{NameStreams, NameEntry, name_entry, name_entries, Given, given_by, Pair, pairs_of}
 use Rattle.carrier_model.proofs.SortedLists.{in_tail}
 use Rattle.carrier_model.proofs.SortedElements.{every_from, every_elements, length_elements, all_elements}
-use Rattle.carrier_model.proofs.Turns.{in_turn-only}
 use Rattle.carrier_model.proofs.Numbers.{number32-le32}
 use Rattle.carrier_model.proofs.Units.{units_again, length-units}
 use Rattle.msg_model.proofs.NameMap.{indexes, given_by-only}
