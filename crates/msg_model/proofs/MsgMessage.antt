@@ -13,10 +13,10 @@ use Rattle.carrier_model.specs.Kinds.{ATTACHED_OBJECT}
 use Rattle.carrier_model.specs.Meanings.{Meaning, Held, held_message, held_store}
 use Rattle.carrier_model.specs.Tree.{GREATEST_LEVEL}
 use Rattle.msg_model.specs.NameMap.{Pair, pairs_of}
-use Rattle.msg_model.specs.WrittenNames.{value_name}
+use Rattle.msg_model.specs.StreamNames.{value_name, RECIPIENT_NAME, ATTACHMENT_NAME}
 use Rattle.carrier_model.specs.Stores.{store_in}
 use Rattle.msg_model.specs.MsgProps.{Part, top, embedded_message, recipient, attachment, Section, MsgProps}
-use Rattle.msg_model.specs.MsgMessage.{name_streams, RECIPIENT_NAME, ATTACHMENT_NAME, numbered, list_in, Carried, carried, meaning_of, Inner, is_message, held_by, held_in, body_in, attachment_in, message_with, message_in, files_meaning, Within, HoldsBy, HasObject, HasBody, AttachmentMeans, MessageMeans, MsgMeans, FilesMean, file_meaning, MsgCarrier, MsgFault}
+use Rattle.msg_model.specs.MsgMessage.{name_streams, numbered, list_in, Carried, carried, meaning_of, Inner, is_message, held_by, held_in, body_in, attachment_in, message_with, message_in, files_meaning, Within, HoldsBy, HasObject, HasBody, AttachmentMeans, MessageMeans, MsgMeans, FilesMean, file_meaning, MsgCarrier, MsgFault}
 use Rattle.carrier_model.proofs.Turns.{ok_same, bind_ok, bind_from, mapped_ok, found_ok, each-sound, each-only, zip_weaker}
 use Rattle.carrier_model.proofs.StoreLaws.{store_in-sound, store_in-only}
 use Rattle.msg_model.proofs.MsgProps.{props_of-sound, props_of-only}

@@ -19,8 +19,8 @@ use Rattle.carrier_model.specs.Values.{Value, number, guid, bytes, numbers, guid
 use Rattle.carrier_model.specs.Trees.{HasUnits, KeyHasUnits, IsPropList}
 use Rattle.carrier_model.specs.Kinds.{bits_of, null_of, without_null, is_number_kind, is_numbers_kind, is_kind, OBJECT, ATTACHED_OBJECT}
 use Rattle.msg_model.specs.MsgValues.{Streams, PropEntry, kind_in, id_in, size_in, step_of, fits_kind, means_empty, pieces_of, Element, elements_of, form_test, presence_test, parts_of, streamed_value, stored_value, value_of}
-use Rattle.msg_model.specs.WrittenNames.{value_name, PS_MAPI, PS_PUBLIC_STRINGS}
-use Rattle.msg_model.specs.WrittenMsg.{element_name}
+use Rattle.msg_model.specs.StreamNames.{value_name, element_name}
+use Rattle.msg_model.specs.WrittenNames.{PS_MAPI, PS_PUBLIC_STRINGS}
 use Rattle.carrier_model.specs.Stores.{PROPERTIES}
 use Rattle.msg_model.specs.NameMap.{NameStreams, NameEntry, name_entry, name_entries, set_index, set_at, has_set, Pair, name_for, StandsFor, ArePairs, NamePairs}
 use Rattle.msg_model.specs.MsgProps.{Part, head_size, is_attachment, prop_entry, prop_entries, Item, kept, passed, embedding, is_passed_kind, key_of, prop_of, item_of, prop_in, Section, MsgProps}

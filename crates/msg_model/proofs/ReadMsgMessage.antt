@@ -16,9 +16,9 @@ use Rattle.carrier_model.specs.Trees.{IsPropList, HasPropLists, IsTree}
 use Rattle.carrier_model.specs.Kinds.{ATTACHED_OBJECT}
 use Rattle.carrier_model.specs.Meanings.{Passed, Meaning, Held}
 use Rattle.msg_model.specs.NameMap.{Pair, NamePairs}
-use Rattle.msg_model.specs.WrittenNames.{value_name}
+use Rattle.msg_model.specs.StreamNames.{value_name, NAME_MAP, RECIPIENT_NAME, ATTACHMENT_NAME}
 use Rattle.msg_model.specs.MsgProps.{Part, top, embedded_message, recipient, attachment, Section, MsgProps}
-use Rattle.msg_model.specs.MsgMessage.{NAME_MAP, streams_of, stream_or_empty, name_streams, RECIPIENT_NAME, ATTACHMENT_NAME, number_in, numbered_in, numbered, Carried, carried, meaning_of, Within, HasBody, AttachmentMeans, MessageMeans, MsgMeans, MsgCarrier, is_message, HoldsBy}
+use Rattle.msg_model.specs.MsgMessage.{streams_of, stream_or_empty, name_streams, number_in, numbered_in, numbered, Carried, carried, meaning_of, Within, HasBody, AttachmentMeans, MessageMeans, MsgMeans, MsgCarrier, is_message, HoldsBy}
 use Rattle.carrier_model.proofs.HoldsLaws.{size_known}
 use Rattle.carrier_model.proofs.Elements.{all_of}
 use Rattle.carrier_model.proofs.TreeParts.{Fits, BodyFits, AttachmentsFit, one_more}

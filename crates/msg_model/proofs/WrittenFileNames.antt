@@ -10,10 +10,10 @@ use Rattle.carrier_model.specs.Files.{folded}
 use Rattle.carrier_model.specs.Lookups.{same_name}
 use Rattle.carrier_model.specs.KeyTexts.{upper, hex_digit, hex_digits}
 use Rattle.msg_model.specs.MsgMessage.{is_hex, hex_number, number_in}
-use Rattle.msg_model.specs.WrittenNames.{value_name}
+use Rattle.msg_model.specs.StreamNames.{value_name, element_name}
 use Rattle.carrier_model.specs.Keys.{Name}
 use Rattle.carrier_model.specs.Values.{Value, number, guid, bytes, numbers, guids, parts, Prop, IsValue}
-use Rattle.msg_model.specs.WrittenMsg.{element_name, element_streams, value_streams, props_streams, tag_of}
+use Rattle.msg_model.specs.WrittenMsg.{element_streams, value_streams, props_streams, tag_of}
 
 pub every_append : {A : Type 0} (P : A → Type 0) (xs ys : List A) → AllByRecursion P xs → AllByRecursion P ys → AllByRecursion P (xs ++ ys)
 every_append P [] ys h g = g

@@ -13,12 +13,12 @@ use Rattle.carrier_model.specs.KeyTexts.{upper, hex_digit, hex_digits}
 use Rattle.carrier_model.specs.Keys.{Name}
 use Rattle.carrier_model.specs.LayoutHolds.{MayBeWrittenAt, MayBeWritten, StreamsFit}
 use Rattle.carrier_model.specs.Lookups.{same_name}
-use Rattle.msg_model.specs.MsgMessage.{NAME_MAP, RECIPIENT_NAME, ATTACHMENT_NAME}
+use Rattle.msg_model.specs.StreamNames.{NAME_MAP, RECIPIENT_NAME, ATTACHMENT_NAME, value_name, element_name, numbered_name}
 use Rattle.carrier_model.specs.Tree.{Message, message, Attachments, no_more, attached, Body, nothing, embedded, stored, depth, depth_in, depth_of_body, listed, names_in, names_below, names_in_body, names_in_props, names_of}
 use Rattle.carrier_model.specs.Trees.{IsPropList, HasPropLists, HavePropLists, BodyHasPropLists, IsTree}
 use Rattle.carrier_model.specs.Values.{Value, number, guid, bytes, numbers, guids, parts, Prop}
-use Rattle.msg_model.specs.WrittenNames.{value_name, hash_stream, has_bytes, name_map_files}
-use Rattle.msg_model.specs.WrittenMsg.{OBJECT_TAG, element_name, numbered_name, element_streams, value_streams, props_streams, tag_of, list_files, recipient_files, attachment_files, body_files, message_files, object_word, head_of, files_of}
+use Rattle.msg_model.specs.WrittenNames.{hash_stream, has_bytes, name_map_files}
+use Rattle.msg_model.specs.WrittenMsg.{OBJECT_TAG, element_streams, value_streams, props_streams, tag_of, list_files, recipient_files, attachment_files, body_files, message_files, object_word, head_of, files_of}
 use Rattle.carrier_model.specs.Stores.{PROPERTIES, AreMembers}
 use Rattle.msg_model.specs.ReadBack.{HasFewParts, HaveFewParts, BodyHasFewParts}
 use Rattle.carrier_model.proofs.StoreOrder.{in_order_apart}

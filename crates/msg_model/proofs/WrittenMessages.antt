@@ -17,8 +17,8 @@ use Rattle.carrier_model.specs.Tree.{Message, message, Attachments, no_more, att
 use Rattle.carrier_model.specs.Meanings.{held_message, held_store}
 use Rattle.msg_model.specs.NameMap.{Pair, pairs_from}
 use Rattle.msg_model.specs.MsgProps.{Part, embedded_message, recipient, attachment, head_size, is_attachment, Section}
-use Rattle.msg_model.specs.MsgMessage.{RECIPIENT_NAME, ATTACHMENT_NAME, numbered, list_in, Carried, meaning_of, Inner, held_by, held_in, body_in, attachment_in, message_with, message_in}
-use Rattle.msg_model.specs.WrittenNames.{value_name}
+use Rattle.msg_model.specs.StreamNames.{RECIPIENT_NAME, ATTACHMENT_NAME, value_name}
+use Rattle.msg_model.specs.MsgMessage.{numbered, list_in, Carried, meaning_of, Inner, held_by, held_in, body_in, attachment_in, message_with, message_in}
 use Rattle.msg_model.specs.WrittenMsg.{OBJECT_TAG, list_files, body_files, message_files, head_of}
 use Rattle.carrier_model.specs.Stores.{PROPERTIES, bare, IsStore}
 use Rattle.msg_model.specs.ReadBack.{NamesAmong, IsReadAs, HasFewParts, HaveFewParts, BodyHasFewParts}

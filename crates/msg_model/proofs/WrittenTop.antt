@@ -15,8 +15,9 @@ use Rattle.carrier_model.specs.Meanings.{Passed, Meaning}
 use Rattle.msg_model.specs.NameMap.{pairs_of, pairs_from}
 use Rattle.msg_model.specs.MsgValues.{Streams}
 use Rattle.msg_model.specs.MsgProps.{top}
-use Rattle.msg_model.specs.MsgMessage.{NAME_MAP, streams_of, stream_or_empty, name_streams_in, name_streams, files_meaning, MsgCarrier, MsgFault}
-use Rattle.msg_model.specs.WrittenNames.{value_name, name_map_files, hash_stream, hash_streams, has_bytes, sets_of, entries_from, text_stream}
+use Rattle.msg_model.specs.StreamNames.{NAME_MAP, value_name}
+use Rattle.msg_model.specs.MsgMessage.{streams_of, stream_or_empty, name_streams_in, name_streams, files_meaning, MsgCarrier, MsgFault}
+use Rattle.msg_model.specs.WrittenNames.{name_map_files, hash_stream, hash_streams, has_bytes, sets_of, entries_from, text_stream}
 use Rattle.msg_model.specs.WrittenMsg.{files_of, msg_in}
 use Rattle.msg_model.specs.ReadBack.{HasStream, AreNames, HasNameMap, HasFewParts}
 use Rattle.carrier_model.proofs.Orders.{name_exact}

@@ -20,9 +20,9 @@ use Rattle.carrier_model.specs.Trees.{IsPropList}
 use Rattle.carrier_model.specs.Tree.{message, Attachments, no_more, attached, Body, nothing, embedded, stored, listed}
 use Rattle.msg_model.specs.NameMap.{name_for, pairs_from}
 use Rattle.msg_model.specs.MsgProps.{Part, head_size, is_attachment}
-use Rattle.msg_model.specs.MsgMessage.{NAME_MAP, RECIPIENT_NAME, ATTACHMENT_NAME, hex_number}
-use Rattle.msg_model.specs.WrittenNames.{value_name}
-use Rattle.msg_model.specs.WrittenMsg.{number_of_key, tag_of, OBJECT_TAG, props_streams, entries_bytes, list_files, recipient_files, attachment_files, body_files, message_files, object_word, numbered_name, head_of}
+use Rattle.msg_model.specs.StreamNames.{NAME_MAP, RECIPIENT_NAME, ATTACHMENT_NAME, value_name, numbered_name}
+use Rattle.msg_model.specs.MsgMessage.{hex_number}
+use Rattle.msg_model.specs.WrittenMsg.{number_of_key, tag_of, OBJECT_TAG, props_streams, entries_bytes, list_files, recipient_files, attachment_files, body_files, message_files, object_word, head_of}
 use Rattle.carrier_model.specs.Stores.{PROPERTIES}
 use Rattle.msg_model.specs.ReadBack.{HasStream, HasList, NamesAmong}
 use Rattle.carrier_model.proofs.Orders.{prop_total}

@@ -16,8 +16,8 @@ use Rattle.carrier_model.specs.Values.{Value, number, guid, bytes, numbers, guid
 use Rattle.carrier_model.specs.Bytes.{le_number, le_bytes}
 use Rattle.carrier_model.specs.Kinds.{bits_of, null_of, without_null, is_number_kind, is_numbers_kind}
 use Rattle.msg_model.specs.MsgValues.{Streams, PropEntry, kind_in, step_of, fits_kind, pieces_of, Element, elements_of, form_test, presence_test, parts_of, streamed_value, stored_value, value_of}
-use Rattle.msg_model.specs.WrittenNames.{value_name}
-use Rattle.msg_model.specs.WrittenMsg.{with_null, length_words, element_name, element_streams, value_streams, value_field}
+use Rattle.msg_model.specs.StreamNames.{value_name, element_name}
+use Rattle.msg_model.specs.WrittenMsg.{with_null, length_words, element_streams, value_streams, value_field}
 use Rattle.msg_model.specs.ReadBack.{HasStream}
 use Rattle.carrier_model.proofs.Turns.{bind_from, check_from}
 use Rattle.carrier_model.proofs.KindLaws.{without_its_null, bytes_kinds, number_again, several, map_again}

@@ -11,8 +11,7 @@ use Rattle.carrier_model.specs.Lookups.{Found, size_place, bytes_at, size_place_
 use Rattle.carrier_model.specs.Values.{Value, number, guid, bytes, numbers, guids, parts, number_widths, numbers_widths, width_in, is_bytes_kind}
 use Rattle.carrier_model.specs.Bytes.{le_number}
 use Rattle.carrier_model.specs.Kinds.{bits_of, null_of, without_null, is_number_kind, is_numbers_kind}
-use Rattle.msg_model.specs.WrittenNames.{value_name}
-use Rattle.msg_model.specs.WrittenMsg.{element_name}
+use Rattle.msg_model.specs.StreamNames.{value_name, element_name}
 
 -- the streams of a storage, by their names
 abbrev pub Streams : Type 0
