@@ -1,6 +1,6 @@
 -- The texts of keys, as ASCII characters. The property sets with labels are those of MS-OXPROPS, section 1.3.2; the
 -- order of a GUID's bytes in print is that of MS-DTYP, section 2.3.4.3.
-use Rattle.std.specs.Prelude.{ℕ, zero, suc, ◌+◌, ◌-◌, ◌/◌, ◌%◌, ◌==◌, ◌&&◌, nat_lt, nat_le, not, List, [], ◌∷◌, ◌++◌, take, drop, reverse, Bool, Option, Some, None, if◌then◌else◌, unwrap_or, codes}
+use Rattle.std.specs.Prelude.{ℕ, zero, suc, ◌+◌, ◌-◌, ◌/◌, ◌%◌, ◌==◌, ◌&&◌, nat_lt, nat_le, not, List, [], ◌∷◌, ◌++◌, take, drop, reverse, Bool, Option, None, if◌then◌else◌, unwrap_or, codes}
 use Rattle.std.specs.List.{flat_map}
 use Rattle.std.specs.Str.{bytes_eq}
 use Rattle.carrier_model.specs.Bytes.{number32}

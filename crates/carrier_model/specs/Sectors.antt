@@ -1,5 +1,5 @@
 -- The sectors of a compound file (MS-CFB 2.1, 2.2, 2.3). The sector size z is 512 bytes, or 4096.
-use Rattle.std.specs.Prelude.{ℕ, ◌+◌, ◌-◌, ◌*◌, ◌/◌, ◌%◌, List, get_or, length, map, take, drop, Bool, ◌||◌, nat_eq}
+use Rattle.std.specs.Prelude.{ℕ, ◌+◌, ◌-◌, ◌*◌, ◌/◌, ◌%◌, List, get_or, length, map, drop, Bool, ◌||◌, nat_eq}
 use Rattle.std.specs.List.{range_with_len, flat_map}
 use Rattle.carrier_model.specs.Bytes.{number16, number32}
 

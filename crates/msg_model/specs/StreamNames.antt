@@ -1,5 +1,5 @@
 -- The names of the storages and streams of a .msg file, as ASCII characters. [MS-OXMSG 2.1.2.1, 2.1.3, 2.1.4, 2.2]
-use Rattle.std.specs.Prelude.{ℕ, List, codes, ◌+◌, ◌++◌, ◌-◌}
+use Rattle.std.specs.Prelude.{ℕ, List, codes, ◌++◌}
 use Rattle.carrier_model.specs.KeyTexts.{upper, hex_digits}
 
 abbrev pub NAME_MAP : List ℕ

@@ -1,5 +1,5 @@
 -- The storages and streams that a message is written as, in a .msg file. [MS-OXMSG 2.1, 2.2, 2.4]
-use Rattle.std.specs.Prelude.{ℕ, ◌+◌, ◌-◌, ◌*◌, ◌==◌, not, if◌then◌else◌, Bool, true, false, Option, Some, None, List, [], ◌∷◌, ◌++◌, length, replicate, filter, codes}
+use Rattle.std.specs.Prelude.{ℕ, ◌+◌, ◌-◌, ◌*◌, ◌==◌, not, if◌then◌else◌, Bool, true, false, Option, Some, None, List, [], ◌∷◌, ◌++◌, length, replicate, filter}
 use Rattle.std.specs.List.{flat_map}
 use Rattle.carrier_model.specs.Bytes.{le32, le_bytes}
 use Rattle.carrier_model.specs.FileTrees.{FileTree, no_file, stream, storage, and_files, streams_from, NO_CLASS}
