@@ -4,7 +4,14 @@ use Rattle.std.specs.List.{AllZip}
 use Rattle.std.proofs.lemmas.List.{append-nil}
 use Rattle.carrier_model.specs.Trail.{Fault}
 use Rattle.carrier_model.specs.Outcomes.{◌>>=◌, check, mapped}
-use Rattle.carrier_model.specs.Turns.{in_turn, each, AllGive, found}
+use Rattle.carrier_model.specs.Turns.{in_turn, each, found}
+
+-- each of the things gives the one beside it, behind those before it
+abbrev pub AllGive : {A B : Type 0} → (List B → A → Result B Fault) → List B → List A → List B → Type 0
+AllGive read before [] [] = Unit {0}
+AllGive read before [] (b ∷ bs) = ⊥
+AllGive read before (a ∷ others) [] = ⊥
+AllGive read before (a ∷ others) (b ∷ bs) = (read before a ≡ Ok b) × AllGive read (before ++ b ∷ []) others bs
 
 -- what is answered is one thing
 pub ok_same : {A : Type 0} (r : Result A Fault) (x y : A) → r ≡ Ok x → r ≡ Ok y → y ≡ x

@@ -45,5 +45,6 @@ units_of (low ∷ high ∷ more) = (low + 256 * high) ∷ units_of more
 abbrev pub le_bytes : ℕ → ℕ → List ℕ
 le_bytes width n = if width == 2 then le16 n else (if width == 4 then le32 n else to_le_bytes w64 n)
 
+-- the bytes of 16-bit units
 abbrev pub unit_bytes : List ℕ → List ℕ
 unit_bytes = flat_map le16

@@ -1,9 +1,10 @@
 -- The texts of keys, as ASCII characters. The property sets with labels are those of MS-OXPROPS, section 1.3.2; the
 -- order of a GUID's bytes in print is that of MS-DTYP, section 2.3.4.3.
-use Rattle.std.specs.Prelude.{ℕ, zero, suc, ◌+◌, ◌-◌, ◌/◌, ◌%◌, ◌==◌, ◌&&◌, nat_lt, nat_le, not, List, [], ◌∷◌, ◌++◌, take, drop, reverse, Bool, Option, Some, None, if◌then◌else◌, unwrap_or, codes}
+use Rattle.std.specs.Prelude.{ℕ, zero, suc, ◌+◌, ◌-◌, ◌/◌, ◌%◌, ◌==◌, ◌&&◌, nat_lt, nat_le, not, List, [], ◌∷◌, ◌++◌, take, drop, reverse, Bool, Option, None, if◌then◌else◌, unwrap_or, codes}
 use Rattle.std.specs.List.{flat_map}
 use Rattle.std.specs.Str.{bytes_eq}
 use Rattle.carrier_model.specs.Bytes.{number32}
+use Rattle.carrier_model.specs.Lists.{looked_up}
 use Rattle.carrier_model.specs.Keys.{Name, numbered, texted, Key, id, named, set_of}
 
 -- the character of the digit ten, in either case
@@ -51,8 +52,7 @@ abbrev pub label_family : List ℕ
 label_family = 0x00 ∷ 0x00 ∷ 0x00 ∷ 0x00 ∷ 0xC0 ∷ 0x00 ∷ 0x00 ∷ 0x00 ∷ 0x00 ∷ 0x00 ∷ 0x00 ∷ 0x46 ∷ []
 
 abbrev pub label_among : List (ℕ × List ℕ) → ℕ → Option (List ℕ)
-label_among [] field = None
-label_among (row ∷ rows) field = if row.0 == field then Some row.1 else label_among rows field
+label_among = looked_up
 
 abbrev pub label_of : List ℕ → Option (List ℕ)
 label_of set = if bytes_eq (drop 4 set) label_family then label_among labels (number32 set) else None

@@ -1,5 +1,6 @@
 -- The names of the property types of MS-OXCDATA, section 2.11.1, in print.
-use Rattle.std.specs.Prelude.{ℕ, ◌==◌, List, [], ◌∷◌, Option, Some, None, if◌then◌else◌, codes}
+use Rattle.std.specs.Prelude.{ℕ, List, [], ◌∷◌, Option, codes}
+use Rattle.carrier_model.specs.Lists.{looked_up}
 
 abbrev pub kind_names : List (ℕ × List ℕ)
 kind_names =
@@ -12,10 +13,6 @@ kind_names =
     (0x101E, codes "MultipleString8") ∷ (0x101F, codes "MultipleString") ∷ (0x1040, codes "MultipleTime") ∷
     (0x1048, codes "MultipleGuid") ∷ (0x1102, codes "MultipleBinary") ∷ []
 
-abbrev pub name_among : List (ℕ × List ℕ) → ℕ → Option (List ℕ)
-name_among [] kind = None
-name_among (row ∷ rows) kind = if row.0 == kind then Some row.1 else name_among rows kind
-
 -- the name of a kind, by its number
 abbrev pub kind_name : ℕ → Option (List ℕ)
-kind_name = name_among kind_names
+kind_name = looked_up kind_names

@@ -6,12 +6,14 @@ use Rattle.carrier_model.specs.Bytes.{le_number}
 use Rattle.carrier_model.specs.Sorted.{choose}
 use Rattle.carrier_model.specs.Keys.{id, key_cmp}
 
+-- the kind of an Object, and the tag of the one that an attachment has
 abbrev pub OBJECT : ℕ
 OBJECT = 0x000D
 
 abbrev pub ATTACHED_OBJECT : ℕ
 ATTACHED_OBJECT = 0x3701000D
 
+-- kinds of one number, of several numbers, and of any value
 abbrev pub is_number_kind : ℕ → Bool
 is_number_kind kind = nat_lt 0 (width_in number_widths kind)
 

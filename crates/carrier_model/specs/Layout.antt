@@ -6,7 +6,7 @@ use Rattle.carrier_model.specs.Bytes.{le16, le32}
 use Rattle.carrier_model.specs.Chains.{end_word}
 use Rattle.carrier_model.specs.FileTrees.{FileTree, no_file, stream, storage, NO_CLASS, entries_in, sorted}
 use Rattle.carrier_model.specs.Links.{no_link}
-use Rattle.carrier_model.specs.Tables.{major, sector_shift, difat_count}
+use Rattle.carrier_model.specs.Tables.{SIGNATURE_LOW, SIGNATURE_HIGH, major, sector_shift, difat_count}
 
 -- ---- the entries of the directory
 
@@ -233,7 +233,7 @@ difat_bytes z p = flat_map (λ k. words_bytes (difat_words z p k)) (range_with_l
 -- signature, class and versions, byte order and the powers of two
 abbrev pub header_front : ℕ → List ℕ
 header_front z =
-    le32 0xE011CFD0 ++ (le32 0xE11AB1A1 ++ (NO_CLASS ++ (le16 0x003E ++ (le16 (major z) ++ (le16 0xFFFE ++ (le16 (sector_shift z) ++ (le16 6 ++ replicate 6 0)))))))
+    le32 SIGNATURE_LOW ++ (le32 SIGNATURE_HIGH ++ (NO_CLASS ++ (le16 0x003E ++ (le16 (major z) ++ (le16 0xFFFE ++ (le16 (sector_shift z) ++ (le16 6 ++ replicate 6 0)))))))
 
 -- only the later version counts the directory's sectors
 abbrev pub directory_field : ℕ → Plan → ℕ

@@ -1,5 +1,6 @@
 -- What a target has no room for. [MS-OXMSG 2.2.1, 2.2.2 and 2.2.3]
-use Rattle.std.specs.Prelude.{ℕ, Bool, true, false, List, [], ◌∷◌, ◌++◌, length, Option, Some, None, flat_map, nat_lt}
+use Rattle.std.specs.Prelude.{ℕ, Bool, true, false, List, [], ◌∷◌, ◌++◌, length, Option, flat_map, nat_lt}
+use Rattle.carrier_model.specs.Lists.{first_of_list}
 use Rattle.carrier_model.specs.Tree.{Message, messages_in, names_of}
 use Rattle.carrier_model.specs.Totals.{recipient_count, attachment_count}
 
@@ -39,5 +40,4 @@ tnef_limits t = passed_names t
 
 -- the first of them, if any
 abbrev pub first_limit : List Limit → Option Limit
-first_limit [] = None
-first_limit (limit ∷ limits) = Some limit
+first_limit = first_of_list

@@ -17,6 +17,7 @@ pub record Held : Type 0 where
   pub body : Body
   pub passed : List Passed
 
+-- a message with what was passed over in it, and a store, in which nothing is
 abbrev pub held_message : Meaning → Held
 held_message m = record { body = embedded m.message; passed = m.passed }
 

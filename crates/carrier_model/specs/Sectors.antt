@@ -1,17 +1,17 @@
 -- The sectors of a compound file (MS-CFB 2.1, 2.2, 2.3). The sector size z is 512 bytes, or 4096.
-use Rattle.std.specs.Prelude.{ℕ, ◌+◌, ◌-◌, ◌*◌, ◌/◌, ◌%◌, List, get_or, length, map, take, drop, Bool, ◌||◌, nat_eq}
+use Rattle.std.specs.Prelude.{ℕ, ◌+◌, ◌-◌, ◌*◌, ◌/◌, ◌%◌, List, get_or, length, map, drop, Bool, ◌||◌, nat_eq}
 use Rattle.std.specs.List.{range_with_len, flat_map}
-use Rattle.std.specs.Int.{w16, w32, from_le_bytes}
+use Rattle.carrier_model.specs.Bytes.{number16, number32}
 
 abbrev pub is_size : ℕ → Bool
 is_size z = nat_eq z 512 || nat_eq z 4096
 
 -- the little-endian numbers at a place
 unfoldable pub u16_of : List ℕ → ℕ → ℕ
-u16_of b at = from_le_bytes w16 (take 2 (drop at b))
+u16_of b at = number16 (drop at b)
 
 unfoldable pub u32_of : List ℕ → ℕ → ℕ
-u32_of b at = from_le_bytes w32 (take 4 (drop at b))
+u32_of b at = number32 (drop at b)
 
 -- where a sector begins: the header stands before the first, in the room of one
 abbrev pub sector_start : ℕ → ℕ → ℕ

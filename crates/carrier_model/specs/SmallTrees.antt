@@ -8,6 +8,8 @@ use Rattle.carrier_model.specs.KeyTexts.{label_family}
 use Rattle.carrier_model.specs.FileTrees.{no_file, NO_CLASS, Store, stream, storage, FileTree}
 use Rattle.carrier_model.specs.Tree.{Message, message, attached, no_more, stored}
 
+-- ---- properties
+
 abbrev pub integer32 : ℕ → ℕ → Prop
 integer32 n bits = record { key = id n; value = number 0x0003 bits }
 
@@ -25,6 +27,8 @@ string_prop n text = record { key = id n; value = bytes 0x001F (wide text) }
 -- PSETID_Appointment
 abbrev pub APPOINTMENT : List ℕ
 APPOINTMENT = le32 0x00062002 ++ label_family
+
+-- ---- stores
 
 -- one without members and without a class
 abbrev pub empty_store : Store

@@ -12,9 +12,15 @@ pub record Head : Type 0 where
   pub directory : ℕ
   pub mini_fat : ℕ
 
--- the bytes D0 CF 11 E0 A1 B1 1A E1
+-- the bytes D0 CF 11 E0 A1 B1 1A E1, as two numbers
+abbrev pub SIGNATURE_LOW : ℕ
+SIGNATURE_LOW = 0xE011CFD0
+
+abbrev pub SIGNATURE_HIGH : ℕ
+SIGNATURE_HIGH = 0xE11AB1A1
+
 abbrev pub is_signature : List ℕ → Bool
-is_signature b = nat_eq (u32_of b 0) 3759263696 && nat_eq (u32_of b 4) 3776623009
+is_signature b = nat_eq (u32_of b 0) SIGNATURE_LOW && nat_eq (u32_of b 4) SIGNATURE_HIGH
 
 -- the major version that has sectors of this size, and the power of two that says the size
 abbrev pub major : ℕ → ℕ

@@ -1,5 +1,5 @@
 -- Things that are read in turn, up to the first fault.
-use Rattle.std.specs.Prelude.{◌≡◌, List, [], ◌∷◌, ◌++◌, Option, Some, None, Result, Ok, Err}
+use Rattle.std.specs.Prelude.{List, [], ◌∷◌, ◌++◌, Option, Some, None, Result, Ok, Err}
 use Rattle.carrier_model.specs.Trail.{Fault, Test, first_fault}
 use Rattle.carrier_model.specs.Outcomes.{◌>>=◌}
 
@@ -13,13 +13,6 @@ in_turn read before (a ∷ others) = do
 -- what each gives by itself
 abbrev pub each : {A B : Type 0} → (A → Result B Fault) → List A → Result (List B) Fault
 each read = in_turn (λ before. read) []
-
--- each of the things gives the one beside it, behind those before it
-abbrev pub AllGive : {A B : Type 0} → (List B → A → Result B Fault) → List B → List A → List B → Type 0
-AllGive read before [] [] = Unit {0}
-AllGive read before [] (b ∷ bs) = ⊥
-AllGive read before (a ∷ others) [] = ⊥
-AllGive read before (a ∷ others) (b ∷ bs) = (read before a ≡ Ok b) × AllGive read (before ++ b ∷ []) others bs
 
 -- tests in order
 abbrev pub unless : Option Fault → Result (Unit {0}) Fault

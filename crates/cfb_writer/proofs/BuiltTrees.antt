@@ -14,33 +14,59 @@ use Rattle.cfb_writer.specs.Trees.{inside}
 
 -- ---- what a storage's tree is made of
 
+-- a storage's number lies behind its parent's, and there are more
+abbrev pub IsLater : ℕ → ℕ → Child → Type 0
+IsLater parent count (stream name bytes) = Unit {0}
+IsLater parent count (storage name class number) = (parent < number) × (number < count)
+
+abbrev pub AreLater : ℕ → ℕ → List (List Child) → Type 0
+AreLater n count [] = Unit {0}
+AreLater n count (children ∷ others) = AllByRecursion (IsLater n count) children × AreLater (n + 1) count others
+
+later_children : (n count : ℕ) (cs : List Child) → AllByRecursion (IsChild n count) cs → AllByRecursion (IsLater n count) cs
+later_children n count [] all = tt
+later_children n count (stream name bytes ∷ cs) all = (tt, later_children n count cs all.1)
+later_children n count (storage name class number ∷ cs) all = ((all.0.1, all.0.2), later_children n count cs all.1)
+
+later_storages : (n count : ℕ) (storages : List (List Child)) → AreSound n count storages → AreLater n count storages
+later_storages n count [] a = tt
+later_storages n count (s ∷ ss) a = (later_children n count s a.0, later_storages (n + 1) count ss a.1)
+
 -- children whose numbers stand for the same trees
-built_alike : (f g : ℕ → FileTree) (n count : ℕ) (cs : List Child) → ((k : ℕ) → n < k → k < count → f k ≡ g k) → AllByRecursion (IsChild n count) cs → built f cs ≡ built g cs
+built_alike : (f g : ℕ → FileTree) (n count : ℕ) (cs : List Child) → ((k : ℕ) → n < k → k < count → f k ≡ g k) → AllByRecursion (IsLater n count) cs → built f cs ≡ built g cs
 built_alike f g n count [] h all = refl
 built_alike f g n count (stream name bytes ∷ cs) h all = ap (trees.stream name bytes) (built_alike f g n count cs h all.1)
 built_alike f g n count (storage name class number ∷ cs) h all =
-    ap (λ (t : FileTree). trees.storage name class t (built f cs)) (h number all.0.1 all.0.2)
+    ap (λ (t : FileTree). trees.storage name class t (built f cs)) (h number all.0.0 all.0.1)
     ∙ ap (trees.storage name class (g number)) (built_alike f g n count cs h all.1)
 
 past : (t : FileTree) (ts : List FileTree) (n k : ℕ) → n < k → tree_at ts (k - (n + 1)) ≡ tree_at (t ∷ ts) (k - n)
 past t ts n k lt = let e : k - n ≡ suc (k - (n + 1)) = omega (arith, lt) in rw e refl
+
+children_later : (n count i : ℕ) (storages : List (List Child)) → AreLater n count storages → i < length storages → AllByRecursion (IsLater (n + i) count) (children_at storages i)
+children_later n count i [] a lt = absurd (omega (arith, lt))
+children_later n count zero (s ∷ ss) a lt = let e : n + 0 ≡ n = omega arith in rw e a.0
+children_later n count (suc i) (s ∷ ss) a lt = let e : n + suc i ≡ n + 1 + i = omega arith in rw e (children_later (n + 1) count i ss a.1 (omega (arith, lt)))
 
 children_sound : (n count i : ℕ) (storages : List (List Child)) → AreSound n count storages → i < length storages → AllByRecursion (IsChild (n + i) count) (children_at storages i)
 children_sound n count i [] a lt = absurd (omega (arith, lt))
 children_sound n count zero (s ∷ ss) a lt = let e : n + 0 ≡ n = omega arith in rw e a.0
 children_sound n count (suc i) (s ∷ ss) a lt = let e : n + suc i ≡ n + 1 + i = omega arith in rw e (children_sound (n + 1) count i ss a.1 (omega (arith, lt)))
 
-unfolds : (n count i : ℕ) (storages : List (List Child)) → AreSound n count storages → i < length storages → tree_at (trees_from n storages) i ≡ built (λ k. tree_at (trees_from n storages) (k - n)) (children_at storages i)
+unfolds : (n count i : ℕ) (storages : List (List Child)) → AreLater n count storages → i < length storages → tree_at (trees_from n storages) i ≡ built (λ k. tree_at (trees_from n storages) (k - n)) (children_at storages i)
 unfolds n count i [] a lt = absurd (omega (arith, lt))
 unfolds n count zero (s ∷ ss) a lt =
     built_alike (λ k. tree_at (trees_from (n + 1) ss) (k - (n + 1))) (λ k. tree_at (trees_from n (s ∷ ss)) (k - n)) n count s (λ k low high. past _ (trees_from (n + 1) ss) n k low) a.0
 unfolds n count (suc i) (s ∷ ss) a lt =
     unfolds (n + 1) count i ss a.1 (omega (arith, lt))
-    ∙ built_alike (λ k. tree_at (trees_from (n + 1) ss) (k - (n + 1))) (λ k. tree_at (trees_from n (s ∷ ss)) (k - n)) (n + 1 + i) count (children_at ss i) (λ k low high. past _ (trees_from (n + 1) ss) n k (omega (arith, low))) (children_sound (n + 1) count i ss a.1 (omega (arith, lt)))
+    ∙ built_alike (λ k. tree_at (trees_from (n + 1) ss) (k - (n + 1))) (λ k. tree_at (trees_from n (s ∷ ss)) (k - n)) (n + 1 + i) count (children_at ss i) (λ k low high. past _ (trees_from (n + 1) ss) n k (omega (arith, low))) (children_later (n + 1) count i ss a.1 (omega (arith, lt)))
+
+pub inside_later : (storages : List (List Child)) (k : ℕ) → AreLater 0 (length storages) storages → k < length storages → inside storages k ≡ built (inside storages) (children_at storages k)
+inside_later storages k a lt = unfolds 0 (length storages) k storages a lt ∙ built_alike (λ j. tree_at (trees_from 0 storages) (j - 0)) (inside storages) k (length storages) (children_at storages k) (λ j low high. let e : j - 0 ≡ j = omega arith in ap (tree_at (trees_from 0 storages)) e) (subst (λ (m : ℕ). AllByRecursion (IsLater m (length storages)) (children_at storages k)) (omega arith) (children_later 0 (length storages) k storages a lt))
 
 -- a storage's tree is its children, each number for the tree of its storage
 pub inside_is : (storages : List (List Child)) (k : ℕ) → IsSound storages → k < length storages → inside storages k ≡ built (inside storages) (children_at storages k)
-inside_is storages k s lt = unfolds 0 (length storages) k storages s.each lt ∙ built_alike (λ j. tree_at (trees_from 0 storages) (j - 0)) (inside storages) k (length storages) (children_at storages k) (λ j low high. let e : j - 0 ≡ j = omega arith in ap (tree_at (trees_from 0 storages)) e) (subst (λ (m : ℕ). AllByRecursion (IsChild m (length storages)) (children_at storages k)) (omega arith) (children_sound 0 (length storages) k storages s.each lt))
+inside_is storages k s lt = inside_later storages k (later_storages 0 (length storages) storages s.each) lt
 
 pub children_of_sound : (storages : List (List Child)) (k : ℕ) → IsSound storages → k < length storages → AllByRecursion (IsChild k (length storages)) (children_at storages k)
 children_of_sound storages k s lt = subst (λ (m : ℕ). AllByRecursion (IsChild m (length storages)) (children_at storages k)) (omega arith) (children_sound 0 (length storages) k storages s.each lt)

@@ -1,9 +1,12 @@
 pub mod Added
 pub mod BuiltTrees
 pub mod Divided
+pub mod FileSizes
 pub mod Going
+mod Grown
 pub mod HeaderList
 pub mod Least
+pub mod Measures
 pub mod Numbered
 pub mod PlanSizes
 pub mod Rooms

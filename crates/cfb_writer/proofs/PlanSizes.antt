@@ -20,7 +20,7 @@ both Short size [] ys = omega arith
 both Long size [] ys = omega arith
 both share size (x ∷ xs) ys = omega (arith, both share size xs ys, total_then share size x xs, total_then share size x (xs ++ ys))
 
-mini_total : (n : ℕ) (ls : List (ℕ × ℕ)) (files : FileTree) → share_total Short 64 (slots_from n ls files) ≡ mini_in files
+pub mini_total : (n : ℕ) (ls : List (ℕ × ℕ)) (files : FileTree) → share_total Short 64 (slots_from n ls files) ≡ mini_in files
 mini_total n ls trees.no_file = refl
 mini_total n ls (trees.stream name bytes others) =
     let s : Slot = record { name = name; class = NO_CLASS; kind = STREAM; left = (first_links ls).0; right = (first_links ls).1; child = no_link; bytes = bytes } in
@@ -30,7 +30,7 @@ mini_total n ls (trees.storage name class below others) =
     both Short 64 (slots_from (n + 1) inner below) (slots_from (n + 1 + entries_in below) (drop 1 ls) others)
     ∙ omega (arith, mini_total (n + 1) inner below, mini_total (n + 1 + entries_in below) (drop 1 ls) others)
 
-long_total : (z n : ℕ) (ls : List (ℕ × ℕ)) (files : FileTree) → share_total Long z (slots_from n ls files) ≡ long_in z files
+pub long_total : (z n : ℕ) (ls : List (ℕ × ℕ)) (files : FileTree) → share_total Long z (slots_from n ls files) ≡ long_in z files
 long_total z n ls trees.no_file = refl
 long_total z n ls (trees.stream name bytes others) =
     let s : Slot = record { name = name; class = NO_CLASS; kind = STREAM; left = (first_links ls).0; right = (first_links ls).1; child = no_link; bytes = bytes } in

@@ -46,7 +46,7 @@ totals_more z tree xs ys sum one new s o e m l =
 
 pub nameless : {B : Type 0} (of : B → List ℕ) (parent count : ℕ) (name : List ℕ) (kind : Kind B) → IsChild parent count (child_named of name kind) → IsChild parent count (child_named of [] kind)
 nameless of parent count name (Stream content) h = omega arith
-nameless of parent count name (StorageKind class number) h = (omega arith, h.1, h.2)
+nameless of parent count name (StorageKind class number) h = (omega arith, h.1, h.2, h.3)
 
 pub each_at : {X : Type 0} (P : X → Type 0) (xs : List X) (k : ℕ) (d : X) → k < length xs → AllByRecursion P xs → P (get_or xs k d)
 each_at P [] k d lt all = absurd (omega (arith, lt))

@@ -12,7 +12,7 @@ each_more P (x ∷ xs) y h p = (h.0, each_more P xs y h.1 p)
 
 later : (n count more : ℕ) (child : Child) → count ≤ more → IsChild n count child → IsChild n more child
 later n count more (stream name bytes) h c = c
-later n count more (storage name class number) h c = (c.0, c.1, omega (arith, c.2, h))
+later n count more (storage name class number) h c = (c.0, c.1, omega (arith, c.2, h), c.3)
 
 each_later : (n count more : ℕ) (children : List Child) → count ≤ more → AllByRecursion (IsChild n count) children → AllByRecursion (IsChild n more) children
 each_later n count more [] h a = tt

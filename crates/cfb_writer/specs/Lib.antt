@@ -1,7 +1,9 @@
 pub mod Contents
 pub mod Entered
+pub mod Grown
 pub mod Laid
 pub mod Listed
+pub mod Measures
 pub mod Numbered
 pub mod Placed
 pub mod PlanEnds

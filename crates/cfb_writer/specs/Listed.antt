@@ -1,5 +1,5 @@
 -- Storages and streams as they were added, and the tree that they are.
-use Rattle.std.specs.Prelude.{ℕ, ◌+◌, ◌-◌, ◌<◌, ◌≤◌, List, [], ◌∷◌, ◌++◌, length, get_or, slice_set}
+use Rattle.std.specs.Prelude.{◌≡◌, ℕ, ◌+◌, ◌-◌, ◌<◌, ◌≤◌, List, [], ◌∷◌, ◌++◌, length, get_or, slice_set}
 use Rattle.std.specs.List.{AllByRecursion}
 use Rattle.carrier_model.specs.FileTrees as trees
 use Rattle.carrier_model.specs.FileTrees.{FileTree, sibling_cmp}
@@ -46,10 +46,11 @@ tree_of storages = tree_at (trees_from 0 storages) 0
 
 -- ---- what a list keeps to
 
--- A child of the storage with this number, of so many: its name has at most 31 units, and its number comes later.
+-- A child of the storage with this number, of so many: its name has at most 31 units, its number comes later, and its
+-- class has 16 bytes.
 abbrev pub IsChild : ℕ → ℕ → Child → Type 0
 IsChild parent count (stream name bytes) = length name ≤ 31
-IsChild parent count (storage name class number) = (length name ≤ 31) × (parent < number) × (number < count)
+IsChild parent count (storage name class number) = (length name ≤ 31) × (parent < number) × (number < count) × (length class ≡ 16)
 
 -- from the storage with the number n on
 abbrev pub AreSound : ℕ → ℕ → List (List Child) → Type 0

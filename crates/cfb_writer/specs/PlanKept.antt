@@ -1,7 +1,7 @@
 -- What a plan keeps to.
-use Rattle.std.specs.Prelude.{◌≡◌, ℕ, ◌+◌, ◌*◌}
+use Rattle.std.specs.Prelude.{◌≡◌, ℕ, length}
 use Rattle.std.specs.List.{AllByRecursion}
-use Rattle.carrier_model.specs.Layout.{rest_of}
+use Rattle.carrier_model.specs.Layout.{file_bytes}
 use Rattle.cfb_writer.specs.Laid.{Laid, IsShort, others_of, slots_in}
 use Rattle.cfb_writer.specs.Numbered.{plan_seen, IsSmall, IsPlanFor}
 use Rattle.cfb_writer.specs.declared.numbers.Numbers.{Numbers}
@@ -10,4 +10,4 @@ pub record IsPlanned (z : ℕ) (numbers : Numbers) (laid : Laid) (size : ℕ) : 
   pub small : IsSmall numbers
   pub plan : IsPlanFor z (plan_seen numbers) (slots_in laid)
   pub short : AllByRecursion IsShort (others_of laid)
-  pub whole : size ≡ z * (1 + (numbers.fat + numbers.difat + rest_of (plan_seen numbers).sizes))
+  pub whole : size ≡ length (file_bytes z (plan_seen numbers) (slots_in laid))

@@ -28,7 +28,8 @@ fn suffices(version: Version, rest: u64, fat: u64) -> bool
 /// The least number of sectors of a table that has a word for every sector, where there are so many others.
 pub fn fat_count(version: Version, rest: u64) -> u64
     requires { rest ≤ 2 ^ 60 }
-    ensures { result ≡ layout.fat_count (sector_of version) rest }
+    ensures least { result ≡ layout.fat_count (sector_of version) rest }
+    ensures few { result ≤ rest + 1 }
 {
     let words = version.sector() / 4;
     let mut fat = 0;

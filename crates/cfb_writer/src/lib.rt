@@ -11,6 +11,7 @@ mod laws;
 mod links;
 mod list;
 mod numbers;
+mod parts;
 mod placing;
 mod plan;
 mod plan_entries;
@@ -23,7 +24,7 @@ mod version;
 mod whole;
 
 pub use content::Content;
-pub use laws::sorted_lists_are_laid_out;
+pub use laws::{grown_lists_are_trees, sorted_lists_are_laid_out};
 pub use list::FileList;
 pub use plan::Plan;
 pub use version::Version;

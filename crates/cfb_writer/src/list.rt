@@ -73,7 +73,9 @@ impl<'t, B: Blob> FileList<'t, B> {
 
     /// The same list with what is in each storage in its order. Each storage is sorted once.
     pub(crate) fn sorted(self) -> Result<FileList<'t, B>, NoMemory>
-        ensures { IfOk result (λ list. list ≡ record self.entry { storages = map siblings_in_order self.entry.storages }) }
+        ensures value { IfOk result (λ list. list ≡ record self.entry { storages = map siblings_in_order self.entry.storages }) }
+        ensures class { IfOk result (λ list. length list.root_class ≡ 16) }
+        ensures sound { IfOk result (λ list. listed.IsSound list.storages) }
     {
         let FileList {
             alloc,

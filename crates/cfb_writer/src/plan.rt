@@ -1,18 +1,15 @@
 //! A compound file, planned and written.
 use crate::entries::Entries;
-use crate::fat_count::{difat_count, fat_count};
 use crate::list::FileList;
 use crate::numbers::Numbers;
+use crate::parts::measured;
 use crate::plan_entries::entries_of;
-use crate::totals::{Totals, all_totals};
+use crate::totals::all_totals;
 use crate::version::Version;
 use crate::whole::append_file;
 use carrier_io::{Blob, Failed, PlanEnd, Sink, SureSink, Writing};
 use std::alloc::Global;
 use std::marker::Model;
-
-/// The most bytes of an output.
-const MOST_BYTES: u64 = 268_435_456;
 
 /// What will be written for a list. It keeps the list, and holds no output.
 #[derive(Drop)]
@@ -36,44 +33,6 @@ impl<'t, B: Blob> Model for Plan<'t, B> {
     ghost view = { λ s. file_bytes (sector_of s.version) (plan_seen s.numbers) (slots_in s.entries) };
 
     ghost invariant = { λ s. IsPlanned (sector_of s.version) s.numbers s.entries s.size };
-}
-
-/// How many sectors each part has, and all of them with the header, where the numbers are such that no sum of them
-/// wraps; None where there are more bytes than a `u64` can tell.
-#[derive(Drop)]
-struct PartCounts {
-    directory: u64,
-    mini_fat: u64,
-    mini_stream: u64,
-    fat: u64,
-    difat: u64,
-    all: u64,
-}
-
-/// The sectors of each part.
-fn count_parts(version: Version, totals: Totals) -> Option<PartCounts> {
-    let sector = version.sector();
-    let directory_bytes = totals.entries.saturating_add(1).saturating_mul(128);
-    let mini_bytes = totals.mini.saturating_mul(64);
-    let long_bytes = totals.long.saturating_mul(sector);
-    if directory_bytes == u64::MAX || mini_bytes == u64::MAX || long_bytes == u64::MAX {
-        return None;
-    }
-    let directory = directory_bytes.div_ceil(sector);
-    let mini_fat = (totals.mini * 4).div_ceil(sector);
-    let mini_stream = mini_bytes.div_ceil(sector);
-    let rest = directory + mini_fat + mini_stream + totals.long;
-    let fat = fat_count(version, rest);
-    let difat = difat_count(version, fat);
-    let all = 1 + fat + difat + rest;
-    Some(PartCounts {
-        directory,
-        mini_fat,
-        mini_stream,
-        fat,
-        difat,
-        all,
-    })
 }
 
 impl<'t, B: Blob> Plan<'t, B> {
@@ -119,26 +78,12 @@ impl<'t, B: Blob> Plan<'t, B> {
     {
         let list = files.sorted()?;
         let totals = all_totals(alloc, version, &list)?;
-        let whole = totals[0];
-        let counts = match count_parts(version, whole) {
-            Some(counts) => counts,
-            None => return Err(PlanEnd::TooLarge(u64::MAX)),
-        };
-        let size = version.sector().saturating_mul(counts.all);
-        if size > MOST_BYTES {
-            return Err(PlanEnd::TooLarge(size));
-        }
-        let numbers = Numbers {
-            fat: counts.fat as u32,
-            difat: counts.difat as u32,
-            directory: counts.directory as u32,
-            mini_fat: counts.mini_fat as u32,
-            mini_sectors: whole.mini as u32,
-            mini_stream: counts.mini_stream as u32,
-            long: whole.long as u32,
+        let measure = match measured(version, totals[0]) {
+            Ok(measure) => measure,
+            Err(size) => return Err(PlanEnd::TooLarge(size)),
         };
         let entries = entries_of(alloc, list, &totals)?;
-        Ok(Plan::of_parts(version, numbers, entries, size))
+        Ok(Plan::of_parts(version, measure.numbers, entries, measure.size))
     }
 
     /// How many bytes are written.

@@ -6,6 +6,7 @@ use Rattle.carrier_model.specs.Bytes.{number32, MOST_BYTES}
 use Rattle.carrier_model.specs.Reasons.{NOT_BUILT, NOT_A_CARRIER, INPUT_TOO_LONG}
 use Rattle.carrier_model.specs.Meanings.{Meaning}
 use Rattle.tnef_model.specs.TnefMessage.{TnefCarrier, TnefFault}
+use Rattle.carrier_model.specs.Tables.{SIGNATURE_LOW, SIGNATURE_HIGH}
 use Rattle.carrier_model.specs.Trail.{Fault}
 
 -- the words of the command that is built, as bytes: the one word `to-tnef`
@@ -16,9 +17,9 @@ IsJob words = words ≡ codes "to-tnef" ∷ []
 abbrev pub is_signed : List ℕ → Bool
 is_signed bytes = nat_le 4 (length bytes) && (number32 bytes == SIGNATURE)
 
--- the bytes begin as a compound file: D0 CF 11 E0 A1 B1 1A E1
+-- the bytes begin as a compound file
 abbrev pub is_compound : List ℕ → Bool
-is_compound bytes = nat_le 8 (length bytes) && ((number32 bytes == 0xe011cfd0) && (number32 (drop 4 bytes) == 0xe11ab1a1))
+is_compound bytes = nat_le 8 (length bytes) && ((number32 bytes == SIGNATURE_LOW) && (number32 (drop 4 bytes) == SIGNATURE_HIGH))
 
 -- the bytes are few enough and carry the message, with things passed over
 abbrev pub Accepts : List ℕ → Meaning → Type 0

@@ -1,6 +1,6 @@
 -- The names of the reasons of refusals, in print.
 use Rattle.std.specs.Prelude.{ℕ, List, [], ◌∷◌, Option, codes}
-use Rattle.carrier_model.specs.KindNames.{name_among}
+use Rattle.carrier_model.specs.Lists.{looked_up}
 
 abbrev pub reason_names : List (ℕ × List ℕ)
 reason_names =
@@ -22,4 +22,4 @@ reason_names =
 
 -- the name of a reason, by its number
 abbrev pub reason_name : ℕ → Option (List ℕ)
-reason_name = name_among reason_names
+reason_name = looked_up reason_names

@@ -4,5 +4,6 @@ pub mod MsgValues
 pub mod NameMap
 pub mod ReadBack
 pub mod SampleFiles
+pub mod StreamNames
 pub mod WrittenMsg
 pub mod WrittenNames

@@ -1,5 +1,5 @@
 -- The message that a .msg file means. [MS-OXMSG 2.1 to 2.4]
-use Rattle.std.specs.Prelude.{◌≡◌, ℕ, zero, suc, ◌+◌, ◌*◌, ◌-◌, ◌==◌, ◌&&◌, ◌||◌, Bool, true, false, nat_le, if◌then◌else◌, List, [], ◌++◌, length, map, take, drop, fold, Option, Some, None, is_some, option_to_list, Result, Ok, Err, codes}
+use Rattle.std.specs.Prelude.{◌≡◌, ℕ, zero, suc, ◌+◌, ◌*◌, ◌-◌, ◌==◌, ◌&&◌, ◌||◌, Bool, true, false, nat_le, if◌then◌else◌, List, [], ◌++◌, length, map, take, drop, fold, Option, Some, None, is_some, option_to_list, Result, Ok, Err}
 use Rattle.std.specs.Option.{option_map}
 use Rattle.std.specs.List.{flat_map, list_all, AllZip}
 use Rattle.std.specs.Ordering.{nat_cmp, on}
@@ -18,15 +18,12 @@ use Rattle.carrier_model.specs.FileTrees.{Store}
 use Rattle.carrier_model.specs.Kinds.{ATTACHED_OBJECT}
 use Rattle.carrier_model.specs.Meanings.{Passed, Meaning, Held, held_message, held_store}
 use Rattle.msg_model.specs.NameMap.{NameStreams, Pair, pairs_of, NamePairs}
-use Rattle.msg_model.specs.StreamNames.{value_name}
+use Rattle.msg_model.specs.StreamNames.{GUID_STREAM, ENTRY_STREAM, TEXT_STREAM, value_name, ATTACHMENT_NAME, NAME_MAP, RECIPIENT_NAME}
 use Rattle.carrier_model.specs.Stores.{PROPERTIES, store_in, StoreMeans}
 use Rattle.msg_model.specs.MsgValues.{Streams}
 use Rattle.msg_model.specs.MsgProps.{Part, top, embedded_message, recipient, attachment, Section, props_of, MsgProps}
 
 -- ---- the names of a file
-
-abbrev pub NAME_MAP : List ℕ
-NAME_MAP = codes "__nameid_version1.0"
 
 -- the streams of a storage; of an absent one there are none
 abbrev pub streams_of : Option Files → Streams
@@ -40,21 +37,15 @@ stream_or_empty (Some f) = f.stream
 
 abbrev pub name_streams_in : Streams → NameStreams
 name_streams_in streams = record {
-  guids = stream_or_empty (streams (value_name 0x00020102));
-  entries = stream_or_empty (streams (value_name 0x00030102));
-  texts = stream_or_empty (streams (value_name 0x00040102));
+  guids = stream_or_empty (streams GUID_STREAM);
+  entries = stream_or_empty (streams ENTRY_STREAM);
+  texts = stream_or_empty (streams TEXT_STREAM);
 }
 
 abbrev pub name_streams : Files → NameStreams
 name_streams root = name_streams_in (streams_of (storage_named root.children NAME_MAP))
 
 -- ---- recipients and attachments
-
-abbrev pub RECIPIENT_NAME : List ℕ
-RECIPIENT_NAME = codes "__recip_version1.0_#"
-
-abbrev pub ATTACHMENT_NAME : List ℕ
-ATTACHMENT_NAME = codes "__attach_version1.0_#"
 
 -- hexadecimal digits in lower case, and their number
 abbrev pub is_hex : ℕ → Bool

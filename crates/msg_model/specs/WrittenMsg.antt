@@ -1,16 +1,15 @@
 -- The storages and streams that a message is written as, in a .msg file. [MS-OXMSG 2.1, 2.2, 2.4]
-use Rattle.std.specs.Prelude.{ℕ, ◌+◌, ◌-◌, ◌*◌, ◌==◌, not, if◌then◌else◌, Bool, true, false, Option, Some, None, List, [], ◌∷◌, ◌++◌, length, replicate, filter, codes}
+use Rattle.std.specs.Prelude.{ℕ, ◌+◌, ◌-◌, ◌*◌, ◌==◌, not, if◌then◌else◌, Bool, true, false, Option, Some, None, List, [], ◌∷◌, ◌++◌, length, replicate, filter}
 use Rattle.std.specs.List.{flat_map}
 use Rattle.carrier_model.specs.Bytes.{le32, le_bytes}
 use Rattle.carrier_model.specs.FileTrees.{FileTree, no_file, stream, storage, and_files, streams_from, NO_CLASS}
-use Rattle.carrier_model.specs.KeyTexts.{upper, hex_digits}
 use Rattle.carrier_model.specs.Layout.{layout, MESSAGE_CLASS}
 use Rattle.carrier_model.specs.Stores.{PROPERTIES}
 use Rattle.carrier_model.specs.Keys.{Name, Key, id, named, id_of}
 use Rattle.carrier_model.specs.Kinds.{comes_before_object, null_of}
 use Rattle.carrier_model.specs.Tree.{Message, message, Attachments, no_more, attached, Body, nothing, embedded, stored, listed, names_of}
 use Rattle.carrier_model.specs.Values.{Value, number, guid, bytes, numbers, guids, parts, Prop, kind_of, number_widths, numbers_widths, width_in}
-use Rattle.msg_model.specs.StreamNames.{value_name}
+use Rattle.msg_model.specs.StreamNames.{NAME_MAP, RECIPIENT_NAME, ATTACHMENT_NAME, value_name, element_name, numbered_name}
 use Rattle.msg_model.specs.WrittenNames.{name_map_files}
 
 -- ---- tags
@@ -34,10 +33,6 @@ with_null kind x = x ++ replicate (null_of kind) 0
 -- the length of an element of a multiple text, its null counted, or of a Binary, with a word of zeros behind it
 abbrev pub length_words : ℕ → List ℕ → List ℕ
 length_words kind x = if kind == 0x0102 then le32 (length x) ++ le32 0 else le32 (length (with_null kind x))
-
--- the name of an element's stream
-abbrev pub element_name : ℕ → ℕ → List ℕ
-element_name tag i = value_name tag ++ (codes "-" ++ hex_digits upper 8 i)
 
 abbrev pub element_streams : ℕ → ℕ → ℕ → List (List ℕ) → List (List ℕ × List ℕ)
 element_streams tag kind i [] = []
@@ -117,14 +112,11 @@ abbrev pub head_of : Bool → ℕ → ℕ → List ℕ
 head_of true recipients attachments = message_head recipients attachments ++ replicate 8 0
 head_of false recipients attachments = message_head recipients attachments
 
-abbrev pub numbered_name : List ℕ → ℕ → List ℕ
-numbered_name front n = front ++ hex_digits upper 8 n
-
 -- the storages of recipients from a number on
 abbrev pub recipient_files : List Name → ℕ → List (List Prop) → FileTree
 recipient_files names i [] = no_file
 recipient_files names i (props ∷ others) =
-    storage (numbered_name (codes "__recip_version1.0_#") i) NO_CLASS (list_files names (replicate 8 0) props None) (recipient_files names (i + 1) others)
+    storage (numbered_name RECIPIENT_NAME i) NO_CLASS (list_files names (replicate 8 0) props None) (recipient_files names (i + 1) others)
 
 abbrev mutual
   pub message_files : List Name → Bool → Message → FileTree
@@ -135,7 +127,7 @@ abbrev mutual
   pub attachment_files : List Name → ℕ → Attachments → FileTree
   attachment_files names i no_more = no_file
   attachment_files names i (attached props body others) =
-      storage (numbered_name (codes "__attach_version1.0_#") i) NO_CLASS
+      storage (numbered_name ATTACHMENT_NAME i) NO_CLASS
       (and_files (list_files names (replicate 8 0) props (object_word body)) (body_files names body))
       (attachment_files names (i + 1) others)
 
@@ -146,7 +138,7 @@ abbrev mutual
 
 -- the name map, and the message at the top; embedded messages use the ids of the whole tree
 abbrev pub files_of : Message → FileTree
-files_of t = storage (codes "__nameid_version1.0") NO_CLASS (name_map_files (names_of t)) (message_files (names_of t) true t)
+files_of t = storage NAME_MAP NO_CLASS (name_map_files (names_of t)) (message_files (names_of t) true t)
 
 -- the .msg file of a message, in sectors of z bytes
 abbrev pub msg_in : ℕ → Message → List ℕ

@@ -1,14 +1,15 @@
 -- The name map of a .msg file, as it is written: the k-th name in name order has the property index k, from 0.
 -- [MS-OXMSG 2.2.3]
-use Rattle.std.specs.Prelude.{ℕ, ◌+◌, ◌*◌, ◌/◌, ◌%◌, ◌==◌, ◌||◌, not, if◌then◌else◌, Bool, false, true, List, [], ◌∷◌, ◌++◌, length, replicate, map, filter, bit_xor, unwrap_or, codes, bytes_eq}
+use Rattle.std.specs.Prelude.{ℕ, ◌+◌, ◌*◌, ◌/◌, ◌%◌, ◌==◌, ◌||◌, not, if◌then◌else◌, Bool, false, true, List, [], ◌∷◌, ◌++◌, length, replicate, map, filter, bit_xor, unwrap_or, bytes_eq}
 use Rattle.std.specs.Cmp.Lexicographic.{slice_cmp}
 use Rattle.std.specs.Ordering.{nat_cmp}
 use Rattle.std.specs.List.{flat_map, position_from, range_with_len}
 use Rattle.carrier_model.specs.Bytes.{le16, le32, pad4}
 use Rattle.carrier_model.specs.FileTrees.{FileTree, streams_from}
-use Rattle.carrier_model.specs.KeyTexts.{upper, hex_digits, label_family}
+use Rattle.carrier_model.specs.KeyTexts.{label_family}
 use Rattle.carrier_model.specs.Keys.{Name, numbered, texted, set_of}
 use Rattle.carrier_model.specs.Sorted.{with_elements}
+use Rattle.msg_model.specs.StreamNames.{GUID_STREAM, ENTRY_STREAM, TEXT_STREAM, value_name}
 
 -- ---- property sets
 
@@ -106,10 +107,6 @@ bucket_entries sets b k (name ∷ names) =
 
 -- ---- streams
 
--- a stream of an id and a type
-abbrev pub value_name : ℕ → List ℕ
-value_name tag = codes "__substg1.0_" ++ hex_digits upper 8 tag
-
 abbrev pub hash_stream : List Name → ℕ → List ℕ × List ℕ
 hash_stream names b = (value_name ((0x1000 + b) * 65536 + 0x0102), bucket_entries (sets_of names) b 0 names)
 
@@ -124,7 +121,7 @@ hash_streams names = filter has_bytes (map (hash_stream names) (range_with_len 0
 -- the GUIDs, the entries, the texts and the hash streams
 abbrev pub name_map_files : List Name → FileTree
 name_map_files names = streams_from (
-    (value_name 0x00020102, flat_map (λ set. set) (sets_of names))
-    ∷ (value_name 0x00030102, entries_from (sets_of names) 0 0 names)
-    ∷ (value_name 0x00040102, text_stream names)
+    (GUID_STREAM, flat_map (λ set. set) (sets_of names))
+    ∷ (ENTRY_STREAM, entries_from (sets_of names) 0 0 names)
+    ∷ (TEXT_STREAM, text_stream names)
     ∷ hash_streams names)

@@ -1,6 +1,6 @@
 //! Laws about .msg files.
 ghost use Rattle.std.specs.Prelude.{◌≡◌, ◌≤◌, ℕ, Bool, List, [], length, IsPermutation, Ok, Err, Option, IsTrue};
-ghost use Rattle.carrier_model.specs.Bytes.{AllBytes};
+ghost use Rattle.carrier_model.specs.Bytes.{AllBytes, MOST_BYTES};
 ghost use Rattle.carrier_model.specs.FileTrees.{sorted};
 ghost use Rattle.carrier_model.specs.Files.{Children, Files};
 ghost use Rattle.carrier_model.specs.Holds.{AreApart, child_names};
@@ -47,8 +47,8 @@ pub fn files_mean_one_message()
 /// wherever there is one. So a file carries at most one message, or has one first fault, and not both.
 pub fn msg_carriers_are_exact()
     ensures sound { (b : List ℕ) (m : Meaning) → file_meaning b ≡ Ok m → MsgCarrier b m.message m.passed }
-    ensures only { (b : List ℕ) (m : Meaning) → length b ≤ 268435456 → MsgCarrier b m.message m.passed → file_meaning b ≡ Ok m }
-    ensures exact { (b : List ℕ) → length b ≤ 268435456 → IsExact (λ (m : Meaning). MsgCarrier b m.message m.passed) (MsgFault b) }
+    ensures only { (b : List ℕ) (m : Meaning) → length b ≤ MOST_BYTES → MsgCarrier b m.message m.passed → file_meaning b ≡ Ok m }
+    ensures exact { (b : List ℕ) → length b ≤ MOST_BYTES → IsExact (λ (m : Meaning). MsgCarrier b m.message m.passed) (MsgFault b) }
 {}
 
 /// The name map that is written is read back: the k-th name, from 0, has the id 8000 plus k.
@@ -59,7 +59,7 @@ pub fn written_names_are_read()
 /// What a .msg file means is a tree whose lists are sorted and whose values are of their kinds' forms and ranges, where
 /// it is made of bytes and no longer than the greatest input.
 pub fn msg_carriers_are_trees()
-    ensures { (b : List ℕ) (t : Message) (passed : List Passed) → AllBytes b → length b ≤ 268435456 → MsgCarrier b t passed → IsTree t }
+    ensures { (b : List ℕ) (t : Message) (passed : List Passed) → AllBytes b → length b ≤ MOST_BYTES → MsgCarrier b t passed → IsTree t }
 {}
 
 /// A property list that is written to streams is read back, with the entry of an object or without.

@@ -9,6 +9,14 @@ use Rattle.tnef_model.specs.Attributes.{Attr, is_level, spelling, IsAttr, attr_l
 use Rattle.carrier_model.proofs.Numbers.{AllBytes-drop, number32-le32, number16-le16, number32-front, number16-front, number32-below, sum16-below}
 use Rattle.carrier_model.proofs.Items.{Lawful}
 use Rattle.carrier_model.proofs.Tests.{passed, passing}
+use Rattle.std.specs.Prelude.{slice_index}
+
+-- what an attribute's bytes say, and what stands behind it
+abbrev pub attr_of : ℕ → List ℕ → Attr
+attr_of at bytes = attr (slice_index bytes 0) (number32 (drop 1 bytes)) at (take (attr_len bytes) (drop 9 bytes))
+
+abbrev pub after_attr : List ℕ → List ℕ
+after_attr bytes = drop (11 + attr_len bytes) bytes
 
 -- ---- what is spelled is read again
 

@@ -53,13 +53,6 @@ attrs = record {
   tests = attr_tests;
 }
 
--- what an attribute's bytes say, and what stands behind it
-abbrev pub attr_of : ℕ → List ℕ → Attr
-attr_of at bytes = attr (slice_index bytes 0) (number32 (drop 1 bytes)) at (take (attr_len bytes) (drop 9 bytes))
-
-abbrev pub after_attr : List ℕ → List ℕ
-after_attr bytes = drop (11 + attr_len bytes) bytes
-
 abbrev pub SIGNATURE : ℕ
 SIGNATURE = 0x223e9f78
 

@@ -47,5 +47,5 @@ pub fn canonical_tnef_means_its_tree()
 
 /// What a TNEF stream means is such a tree, where it is made of bytes and no longer than the greatest input.
 pub fn tnef_carriers_are_trees()
-    ensures { (bytes : List ℕ) (t : Message) (passed : List Passed) → AllBytes bytes → length bytes ≤ 0x1000_0000 → TnefCarrier bytes t passed → IsTree t }
+    ensures { (bytes : List ℕ) (t : Message) (passed : List Passed) → AllBytes bytes → length bytes ≤ MOST_BYTES → TnefCarrier bytes t passed → IsTree t }
 {}

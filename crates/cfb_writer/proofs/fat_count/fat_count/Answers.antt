@@ -28,7 +28,10 @@ loop-version-smaller c =
     let bad : c.suffices.result ≡ false = search rules in
     omega (arith, next, next-above c.args.version c.args.rest c.loop-version.fat (sym c.suffices.ensures ∙ bad), next-within c.args.version c.args.rest c.loop-version.fat c.loop-version.invariant, count-bound c.args.version c.args.rest)
 
-pub returns : goal.returns
-returns c =
+pub returns-clause-least : goal.returns-clause-least
+returns-clause-least c =
     let good : c.suffices.result ≡ true = search rules in
     count-is c.args.version c.args.rest c.loop-version.fat c.loop-version.invariant (sym c.suffices.ensures ∙ good)
+
+pub returns-clause-few : goal.returns-clause-few
+returns-clause-few c = omega (arith, c.loop-version.invariant, count-bound c.args.version c.args.rest)

@@ -13,3 +13,6 @@ invariant_of-result g c =
     let long : c.self.inside.storages.len ≡ length new = search rules in
     let same : take c.self.inside.storages.len (new ++ drop (length new) items) ≡ new = ap (λ (n : ℕ). take n (new ++ drop (length new) items)) long ∙ taken_back new (drop (length new) items) in
     subst IsSound (sym (ap (storages_of of) same ∙ c.in_ok-sort_all.ensures ∙ ap (λ xs. map siblings_in_order (storages_of of xs)) c.deref_mut.ensures.value)) (sorted_sound (storages_of of items) c.self.invariant)
+
+pub returns-clause-sound : goal.returns-clause-sound
+returns-clause-sound g c = invariant_of-result g c
