@@ -15,7 +15,8 @@ use Rattle.carrier_io.specs.declared.reasons.Stop.{Stop}
 use Rattle.carrier_io.specs.declared.reasons.Stop.TheVariants as stops
 use Rattle.carrier_io.specs.Reads.{Fails}
 use Rattle.cfb_directory.specs.Named.{found, first_named}
-use Rattle.cfb_directory.specs.Families.{family_at, index_at, children_in}
+use Rattle.cfb_directory.specs.Families.{family_at, index_at, names_at, children_in}
+use Rattle.cfb_directory.specs.Spelled.{names_in}
 use Rattle.cfb_directory.specs.declared.families.Family.{Family}
 use Rattle.cfb_directory.specs.declared.links.Member.{Member}
 
@@ -54,16 +55,20 @@ family_more families order i c f d below is inside before put p =
         ]
 
 -- the indexes stay
-pub index_same : (families : List Family) (i : ℕ) (f g : Family) → i < length families → g ≡ get_or families i g → f.names ≡ g.names → (p : ℕ) (q : List ℕ) → index_at (set families i f) p q ≡ index_at families p q
-index_same families i f g inside is same p q = ap (λ (l : List (List ℕ → Option ℕ)). get_or l p (λ _. None) q) (map-set_same (λ f. found f.names) families i f g (ap found (same ∙ ap (λ h. h.names) is)))
+pub index_same : (families : List Family) (i : ℕ) (f g : Family) → i < length families → g ≡ get_or families i g → f.index ≡ g.index → (p : ℕ) (q : List ℕ) → index_at (set families i f) p q ≡ index_at families p q
+index_same families i f g inside is same p q = ap (λ (l : List (List ℕ → Option ℕ)). get_or l p (λ _. None) q) (map-set_same (λ f. found f.index) families i f g (ap found (same ∙ ap (λ h. h.index) is)))
+
+-- the names stay
+pub spelled_same : (families : List Family) (i : ℕ) (f g : Family) → g ≡ get_or families i g → f.names ≡ g.names → (p : ℕ) → names_at (set families i f) p ≡ names_at families p
+spelled_same families i f g is same p = ap (λ (l : List (List (List ℕ))). get_or l p []) (map-set_same (λ f. names_in f.names) families i f g (ap names_in (same ∙ ap (λ h. h.names) is)))
 
 -- the children stay
 pub family_same : (families : List Family) (i : ℕ) (f g : Family) → g ≡ get_or families i g → f.children ≡ g.children → (p : ℕ) → family_at (set families i f) p ≡ family_at families p
 family_same families i f g is same p = ap (λ (l : List (List ℕ)). get_or l p []) (map-set_same (λ f. f.children.items) families i f g (ap (λ v. v.items) same ∙ ap (λ h. h.children.items) is))
 
-index_set : (families : List Family) (i : ℕ) (f : Family) (p : ℕ) (q : List ℕ) → i < length families → index_at (set families i f) p q ≡ cond (eqb i p) (found f.names q) (index_at families p q)
+index_set : (families : List Family) (i : ℕ) (f : Family) (p : ℕ) (q : List ℕ) → i < length families → index_at (set families i f) p q ≡ cond (eqb i p) (found f.index q) (index_at families p q)
 index_set families i f p q inside =
-    ap (λ (h : List ℕ → Option ℕ). h q) (seen-set (λ f. found f.names) families i f p (λ _. None) inside)
+    ap (λ (h : List ℕ → Option ℕ). h q) (seen-set (λ f. found f.index) families i f p (λ _. None) inside)
     ∙ elim (cases_Bool (eqb i p)) [ inl a ↦ rw a refl | inr a ↦ rw a refl ]
 
 member-behind : (p x : ℕ) (xs : List ℕ) → member p (xs ++ x ∷ []) ≡ cond (eqb p x) true (member p xs)
@@ -74,17 +79,31 @@ member-behind p x xs =
     ]
 
 -- one more entry whose children are indexed
-pub index_more : (key : ℕ → List ℕ) (fam : ℕ → List ℕ) (families : List Family) (visits : List ℕ) (i : ℕ) (f : Family) → i < length visits → get_or visits i 0 < length families → ((q : List ℕ) → found f.names q ≡ first_named key q (fam (get_or visits i 0))) → (p : ℕ) (q : List ℕ) → index_at families p q ≡ first_named key q (cond (member p (take i visits)) (fam p) []) → index_at (set families (get_or visits i 0) f) p q ≡ first_named key q (cond (member p (take (i + 1) visits)) (fam p) [])
+pub index_more : (key : ℕ → List ℕ) (fam : ℕ → List ℕ) (families : List Family) (visits : List ℕ) (i : ℕ) (f : Family) → i < length visits → get_or visits i 0 < length families → ((q : List ℕ) → found f.index q ≡ first_named key q (fam (get_or visits i 0))) → (p : ℕ) (q : List ℕ) → index_at families p q ≡ first_named key q (cond (member p (take i visits)) (fam p) []) → index_at (set families (get_or visits i 0) f) p q ≡ first_named key q (cond (member p (take (i + 1) visits)) (fam p) [])
 index_more key fam families visits i f below inside here p q before =
     let x = get_or visits i 0 in
     index_set families x f p q inside
     ∙ (both x (elim (cases_eq x p) [
-      | inl same ↦ rw (eq-eqb x p same, eq-eqb p x (sym same)) (subst (λ k. found f.names q ≡ first_named key q (fam k)) same (here q))
+      | inl same ↦ rw (eq-eqb x p same, eq-eqb p x (sym same)) (subst (λ k. found f.index q ≡ first_named key q (fam k)) same (here q))
       | inr other ↦ rw (ne_eqb x p other, ne_eqb p x (λ e. other (sym e))) before
     ])
     ∙ ap (λ l. first_named key q (cond (member p l) (fam p) [])) (sym (rw (add-one, take-suc visits i 0 below) refl)))
   where
-    both : (x : ℕ) → cond (eqb x p) (found f.names q) (index_at families p q) ≡ first_named key q (cond (cond (eqb p x) true (member p (take i visits))) (fam p) []) → cond (eqb x p) (found f.names q) (index_at families p q) ≡ first_named key q (cond (member p (take i visits ++ x ∷ [])) (fam p) [])
+    both : (x : ℕ) → cond (eqb x p) (found f.index q) (index_at families p q) ≡ first_named key q (cond (cond (eqb p x) true (member p (take i visits))) (fam p) []) → cond (eqb x p) (found f.index q) (index_at families p q) ≡ first_named key q (cond (member p (take i visits ++ x ∷ [])) (fam p) [])
+    both x h = rw (member-behind p x (take i visits)) h
+
+-- and whose children's names are kept
+pub spelled_more : (name : ℕ → List ℕ) (fam : ℕ → List ℕ) (families : List Family) (visits : List ℕ) (i : ℕ) (f : Family) → i < length visits → get_or visits i 0 < length families → names_in f.names ≡ map name (fam (get_or visits i 0)) → (p : ℕ) → names_at families p ≡ map name (cond (member p (take i visits)) (fam p) []) → names_at (set families (get_or visits i 0) f) p ≡ map name (cond (member p (take (i + 1) visits)) (fam p) [])
+spelled_more name fam families visits i f below inside here p before =
+    let x = get_or visits i 0 in
+    seen-set (λ f. names_in f.names) families x f p [] inside
+    ∙ (both x (elim (cases_eq x p) [
+      | inl same ↦ rw (eq-eqb x p same, eq-eqb p x (sym same)) (subst (λ k. names_in f.names ≡ map name (fam k)) same here)
+      | inr other ↦ rw (ne_eqb x p other, ne_eqb p x (λ e. other (sym e))) before
+    ])
+    ∙ ap (λ l. map name (cond (member p l) (fam p) [])) (sym (rw (add-one, take-suc visits i 0 below) refl)))
+  where
+    both : (x : ℕ) → cond (eqb x p) (names_in f.names) (names_at families p) ≡ map name (cond (cond (eqb p x) true (member p (take i visits))) (fam p) []) → cond (eqb x p) (names_in f.names) (names_at families p) ≡ map name (cond (member p (take i visits ++ x ∷ [])) (fam p) [])
     both x h = rw (member-behind p x (take i visits)) h
 
 -- The steps of the test of all storages.

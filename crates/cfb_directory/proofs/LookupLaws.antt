@@ -13,18 +13,19 @@ use Rattle.std.proofs.lemmas.Slice.Eq.{bytes_eq-Decides}
 use Rattle.carrier_model.specs.Files.{Files, Children, none, folded, name_of}
 use Rattle.carrier_model.specs.Links.{is_storage}
 use Rattle.carrier_model.specs.Lookups.{Found, storage_named, stream_named}
-use Rattle.cfb_directory.specs.Families.{family_at, index_at}
+use Rattle.cfb_directory.specs.Families.{family_at, index_at, names_at}
 use Rattle.std.specs.Option.{option_map}
-use Rattle.cfb_sectors.specs.Seen.{stream as stream_seen}
-use Rattle.cfb_sectors.specs.Views.{entry as entry_seen}
+use Rattle.carrier_model.specs.Entries.{Entry}
+use Rattle.cfb_sectors.specs.States.{entry_of}
 use Rattle.cfb_directory.specs.declared.files.Files.{Files as Opened}
 use Rattle.cfb_directory.specs.Found.{Child, children_list, child_stream, storage_seen}
-use Rattle.cfb_directory.specs.Nodes.{no_entry, no_stream, entry_in, place_in, stream_in}
 use Rattle.cfb_directory.specs.Named.{found, first_named, are_apart}
-use Rattle.cfb_directory.specs.Shapes.{table_of, key_in, deepest, tree_at}
+use Rattle.cfb_directory.specs.Shapes.{deepest, tree_at}
+use Rattle.cfb_directory.specs.Shown.{table_in}
+use Rattle.cfb_directory.specs.Spelled.{names_in}
 use Rattle.cfb_directory.specs.Trees.{Table, built, under, ends}
 use Rattle.cfb_directory.specs.declared.families.Family.{Family}
-use Rattle.cfb_directory.specs.declared.node.Node.{Node}
+use Rattle.cfb_directory.specs.declared.lookups.StorageId.{StorageId}
 use Rattle.cfb_directory.proofs.TreeLaws.{enough}
 
 abbrev pub key_at : Table → ℕ → List ℕ
@@ -95,20 +96,20 @@ children_found T below (id ∷ ids) =
     ]
 
 -- what is below an entry are its children, with what is below each
-tree_step : (nodes : List Node) (families : List Family) (at : ℕ) → ends (family_at families) deepest at ≡ true → tree_at nodes families at ≡ built (table_of nodes families) (tree_at nodes families) (family_at families at) none
+tree_step : (T : Table) (at : ℕ) → ends T.kids deepest at ≡ true → tree_at T at ≡ built T (tree_at T) (T.kids at) none
 unfolding under
-tree_step nodes families at deep = enough (table_of nodes families) 102 at deep
+tree_step T at deep = enough T 102 at deep
 
-pub storage_at_name : (nodes : List Node) (families : List Family) (at : ℕ) (name : List ℕ) (r : Option ℕ) → ends (family_at families) deepest at ≡ true → are_apart (key_in nodes) (family_at families at) ≡ true → r ≡ first_named (key_in nodes) (folded name) (family_at families at) → storage_named (tree_at nodes families at) name ≡ storage_pick (table_of nodes families) (tree_at nodes families) r
-storage_at_name nodes families at name r deep apart is =
-    ap (λ c. storage_named c name) (tree_step nodes families at deep) ∙ (storage_found (table_of nodes families) (tree_at nodes families) (family_at families at) name apart ∙ ap (storage_pick (table_of nodes families) (tree_at nodes families)) (sym is))
+pub storage_at_name : (T : Table) (at : ℕ) (name : List ℕ) (r : Option ℕ) → ends T.kids deepest at ≡ true → are_apart (key_at T) (T.kids at) ≡ true → r ≡ first_named (key_at T) (folded name) (T.kids at) → storage_named (tree_at T at) name ≡ storage_pick T (tree_at T) r
+storage_at_name T at name r deep apart is =
+    ap (λ c. storage_named c name) (tree_step T at deep) ∙ (storage_found T (tree_at T) (T.kids at) name apart ∙ ap (storage_pick T (tree_at T)) (sym is))
 
-pub stream_at_name : (nodes : List Node) (families : List Family) (at : ℕ) (name : List ℕ) (r : Option ℕ) → ends (family_at families) deepest at ≡ true → are_apart (key_in nodes) (family_at families at) ≡ true → r ≡ first_named (key_in nodes) (folded name) (family_at families at) → stream_named (tree_at nodes families at) name ≡ stream_pick (table_of nodes families) r
-stream_at_name nodes families at name r deep apart is =
-    ap (λ c. stream_named c name) (tree_step nodes families at deep) ∙ (stream_found (table_of nodes families) (tree_at nodes families) (family_at families at) name apart ∙ ap (stream_pick (table_of nodes families)) (sym is))
+pub stream_at_name : (T : Table) (at : ℕ) (name : List ℕ) (r : Option ℕ) → ends T.kids deepest at ≡ true → are_apart (key_at T) (T.kids at) ≡ true → r ≡ first_named (key_at T) (folded name) (T.kids at) → stream_named (tree_at T at) name ≡ stream_pick T r
+stream_at_name T at name r deep apart is =
+    ap (λ c. stream_named c name) (tree_step T at deep) ∙ (stream_found T (tree_at T) (T.kids at) name apart ∙ ap (stream_pick T) (sym is))
 
-pub children_at : (nodes : List Node) (families : List Family) (at : ℕ) → ends (family_at families) deepest at ≡ true → children_list (tree_at nodes families at) ≡ map (child_pick (table_of nodes families) (tree_at nodes families)) (family_at families at)
-children_at nodes families at deep = ap children_list (tree_step nodes families at deep) ∙ children_found (table_of nodes families) (tree_at nodes families) (family_at families at)
+pub children_at : (T : Table) (at : ℕ) → ends T.kids deepest at ≡ true → children_list (tree_at T at) ≡ map (child_pick T (tree_at T)) (T.kids at)
+children_at T at deep = ap children_list (tree_step T at deep) ∙ children_found T (tree_at T) (T.kids at)
 
 -- a longer list than every name is none
 pub too_long : (key : ℕ → List ℕ) (n : ℕ) (q ids : List ℕ) → n < length q → ((id : ℕ) → length (key id) ≤ n) → first_named key q ids ≡ None
@@ -131,50 +132,56 @@ first_inside key n q (id ∷ ids) inside =
       | inr other ↦ rw other (first_inside key n q ids (All-tail (λ k. k < n) id ids inside))
     ]
 
--- the index of a family
-pub index_is : (families : List Family) (at : ℕ) (f : Family) (q : List ℕ) → at < length families → f ≡ get_or families at f → index_at families at q ≡ found f.names q
-index_is families at f q inside is = ap (λ (h : List ℕ → Option ℕ). h q) (get_or-map (λ f. found f.names) families at f (λ _. None) inside) ∙ ap (λ g. found g.names q) (sym is)
+-- the index of a family, and its names
+pub index_is : (families : List Family) (at : ℕ) (f : Family) (q : List ℕ) → at < length families → f ≡ get_or families at f → index_at families at q ≡ found f.index q
+index_is families at f q inside is = ap (λ (h : List ℕ → Option ℕ). h q) (get_or-map (λ f. found f.index) families at f (λ _. None) inside) ∙ ap (λ g. found g.index q) (sym is)
 
--- what a node says
-pub node_entry : (nodes : List Node) (id : ℕ) (n : Node) → id < length nodes → n ≡ get_or nodes id n → entry_in nodes id ≡ entry_seen n.entry
-node_entry nodes id n inside is = get_or-map (λ (n : Node). entry_seen n.entry) nodes id n no_entry inside ∙ ap (λ (n : Node). entry_seen n.entry) (sym is)
-
-pub node_place : (nodes : List Node) (id : ℕ) (n : Node) → id < length nodes → n ≡ get_or nodes id n → place_in nodes id ≡ n.place
-node_place nodes id n inside is = get_or-map (λ (n : Node). n.place) nodes id n 0 inside ∙ ap (λ (n : Node). n.place) (sym is)
-
-pub node_stream : (nodes : List Node) (id : ℕ) (n : Node) → id < length nodes → n ≡ get_or nodes id n → stream_in nodes id ≡ stream_seen n.stream
-node_stream nodes id n inside is = get_or-map (λ (n : Node). stream_seen n.stream) nodes id n no_stream inside ∙ ap (λ (n : Node). stream_seen n.stream) (sym is)
+pub names_are : (families : List Family) (at : ℕ) (f : Family) → at < length families → f ≡ get_or families at f → names_at families at ≡ names_in f.names
+names_are families at f inside is = get_or-map (λ f. names_in f.names) families at f [] inside ∙ ap (λ g. names_in g.names) (sym is)
 
 -- the storage that an entry is
-pub pick_seen : (f : Opened) (id : ℕ) → option_map (storage_seen f) (cond (is_storage (entry_in f.nodes.items id)) (Some (record { entry = id })) None) ≡ storage_pick (table_of f.nodes.items f.families.items) (tree_at f.nodes.items f.families.items) (Some id)
+pub pick_seen : (f : Opened) (id : ℕ) → option_map (storage_seen f) (cond (is_storage (entry_of f.sectors id)) (Some (record { entry = id })) None) ≡ storage_pick (table_in f) (tree_at (table_in f)) (Some id)
 pick_seen f id =
-    elim (cases_Bool (is_storage (entry_in f.nodes.items id))) [
+    elim (cases_Bool (is_storage (entry_of f.sectors id))) [
       | inl ours ↦ rw ours refl
       | inr other ↦ rw other refl
     ]
 
--- a stream, or a storage, by the node that an entry is
-pub storage_kind : (nodes : List Node) (id : ℕ) (n : Node) → id < length nodes → n ≡ get_or nodes id n → n.entry.kind ≡ 1 → is_storage (entry_in nodes id) ≡ true
-storage_kind nodes id n inside is kind = ap is_storage (node_entry nodes id n inside is) ∙ eq-eqb n.entry.kind 1 kind
+-- a storage that an entry is, if it is one, is among the entries
+pub there_if : (b : Bool) (n id : ℕ) → id < n → IfSome (cond b (Some (record { entry = id })) None) (λ (s : StorageId). s.entry < n)
+there_if true n id h = h
+there_if false n id h = tt
 
-pub stream_kind : (nodes : List Node) (id : ℕ) (n : Node) → id < length nodes → n ≡ get_or nodes id n → (n.entry.kind ≡ 1 → ⊥) → is_storage (entry_in nodes id) ≡ false
-stream_kind nodes id n inside is kind = ap is_storage (node_entry nodes id n inside is) ∙ ne_eqb n.entry.kind 1 kind
+-- the stream that an entry is
+pub picked_stream : (T : Table) (id : ℕ) → option_map (λ (g : Found). g.stream) (stream_pick T (Some id)) ≡ cond (is_storage (T.entry id)) None (Some (T.stream id))
+picked_stream T id =
+    elim (cases_Bool (is_storage (T.entry id))) [
+      | inl ours ↦ rw ours refl
+      | inr other ↦ rw other refl
+    ]
+
+-- a storage, or another, by its type
+pub storage_kind : (e : Entry) (kind : ℕ) → kind ≡ e.kind → kind ≡ 1 → is_storage e ≡ true
+storage_kind e kind is one = ap (λ k. nat_eq k 1) (sym is) ∙ eq-eqb kind 1 one
+
+pub stream_kind : (e : Entry) (kind : ℕ) → kind ≡ e.kind → (kind ≡ 1 → ⊥) → is_storage e ≡ false
+stream_kind e kind is other = ap (λ k. nat_eq k 1) (sym is) ∙ ne_eqb kind 1 other
 
 -- a child at a place
-pub child_past : (nodes : List Node) (families : List Family) (at k : ℕ) → ends (family_at families) deepest at ≡ true → length (family_at families at) ≤ k → slice_get (children_list (tree_at nodes families at)) k ≡ None
-child_past nodes families at k deep past =
-    ap (λ l. slice_get l k) (children_at nodes families at deep)
-    ∙ (slice_get-map (child_pick (table_of nodes families) (tree_at nodes families)) (family_at families at) k ∙ ap (option_map (child_pick (table_of nodes families) (tree_at nodes families))) (slice_get-past (family_at families at) k past))
+pub child_past : (T : Table) (at k : ℕ) → ends T.kids deepest at ≡ true → length (T.kids at) ≤ k → slice_get (children_list (tree_at T at)) k ≡ None
+child_past T at k deep past =
+    ap (λ l. slice_get l k) (children_at T at deep)
+    ∙ (slice_get-map (child_pick T (tree_at T)) (T.kids at) k ∙ ap (option_map (child_pick T (tree_at T))) (slice_get-past (T.kids at) k past))
   where
     slice_get-past : (xs : List ℕ) (k : ℕ) → length xs ≤ k → slice_get xs k ≡ None
     slice_get-past [] k h = refl
     slice_get-past (x ∷ xs) zero h = absurd (omega arith)
     slice_get-past (x ∷ xs) (suc k) h = slice_get-past xs k (omega arith)
 
-pub child_there : (nodes : List Node) (families : List Family) (at k id : ℕ) → ends (family_at families) deepest at ≡ true → k < length (family_at families at) → id ≡ get_or (family_at families at) k id → slice_get (children_list (tree_at nodes families at)) k ≡ Some (child_pick (table_of nodes families) (tree_at nodes families) id)
-child_there nodes families at k id deep inside is =
-    ap (λ l. slice_get l k) (children_at nodes families at deep)
-    ∙ (slice_get-map (child_pick (table_of nodes families) (tree_at nodes families)) (family_at families at) k ∙ ap (option_map (child_pick (table_of nodes families) (tree_at nodes families))) (slice_get-here (family_at families at) k inside is))
+pub child_there : (T : Table) (at k id : ℕ) → ends T.kids deepest at ≡ true → k < length (T.kids at) → id ≡ get_or (T.kids at) k id → slice_get (children_list (tree_at T at)) k ≡ Some (child_pick T (tree_at T) id)
+child_there T at k id deep inside is =
+    ap (λ l. slice_get l k) (children_at T at deep)
+    ∙ (slice_get-map (child_pick T (tree_at T)) (T.kids at) k ∙ ap (option_map (child_pick T (tree_at T))) (slice_get-here (T.kids at) k inside is))
   where
     slice_get-here : (xs : List ℕ) (k : ℕ) → k < length xs → id ≡ get_or xs k id → slice_get xs k ≡ Some id
     slice_get-here [] k h e = absurd (omega arith)
@@ -216,8 +223,8 @@ stream_here T below (x ∷ ids) (suc k) id inside is =
       | inr other ↦ rw other (stream_here T below ids k id (omega arith) is)
     ]
 
-pub child_stream_past : (nodes : List Node) (families : List Family) (at k : ℕ) → ends (family_at families) deepest at ≡ true → length (family_at families at) ≤ k → child_stream (tree_at nodes families at) k ≡ None
-child_stream_past nodes families at k deep past = ap (λ c. child_stream c k) (tree_step nodes families at deep) ∙ stream_past (table_of nodes families) (tree_at nodes families) (family_at families at) k past
+pub child_stream_past : (T : Table) (at k : ℕ) → ends T.kids deepest at ≡ true → length (T.kids at) ≤ k → child_stream (tree_at T at) k ≡ None
+child_stream_past T at k deep past = ap (λ c. child_stream c k) (tree_step T at deep) ∙ stream_past T (tree_at T) (T.kids at) k past
 
-pub child_stream_there : (nodes : List Node) (families : List Family) (at k id : ℕ) → ends (family_at families) deepest at ≡ true → k < length (family_at families at) → id ≡ get_or (family_at families at) k id → child_stream (tree_at nodes families at) k ≡ cond (is_storage (entry_in nodes id)) None (Some (stream_in nodes id))
-child_stream_there nodes families at k id deep inside is = ap (λ c. child_stream c k) (tree_step nodes families at deep) ∙ stream_here (table_of nodes families) (tree_at nodes families) (family_at families at) k id inside is
+pub child_stream_there : (T : Table) (at k id : ℕ) → ends T.kids deepest at ≡ true → k < length (T.kids at) → id ≡ get_or (T.kids at) k id → child_stream (tree_at T at) k ≡ cond (is_storage (T.entry id)) None (Some (T.stream id))
+child_stream_there T at k id deep inside is = ap (λ c. child_stream c k) (tree_step T at deep) ∙ stream_here T (tree_at T) (T.kids at) k id inside is

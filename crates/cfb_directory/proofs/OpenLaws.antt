@@ -2,7 +2,7 @@
 use Rattle.std.proofs.Common.{◌≡◌, ℕ, zero, suc, ◌+◌, ◌<◌, ◌≤◌, List, [], ◌∷◌, ◌++◌, length, get_or, filter, map, take, ◌-◌, ◌/◌, Bool, true, false, ◌&&◌, ◌||◌, cond, eqb, refl, sym, ◌∙◌, ap, subst, arith, Ok, Err, Result, inl, inr}
 use Rattle.std.specs.List.{range_with_len}
 use Rattle.std.proofs.lemmas.List.{length-take, length-map, get_or_past}
-use Rattle.cfb_sectors.specs.Views.{entry as entry_seen}
+use Rattle.cfb_sectors.specs.declared.view.StreamView.{StreamView}
 use Rattle.std.proofs.lemmas.Bool.{cases_Bool, cases_eq, cases_lt, ne_eqb}
 use Rattle.carrier_model.specs.Trail.{Fault}
 use Rattle.carrier_model.specs.Outcomes.{◌>>=◌, mapped}
@@ -18,7 +18,7 @@ use Rattle.carrier_io.specs.declared.reasons.Stop.{Stop}
 use Rattle.carrier_io.specs.declared.reasons.Stop.TheVariants as stops
 use Rattle.carrier_io.specs.Reads.{Fails}
 use Rattle.cfb_sectors.specs.States.{State, entries, entry_of, place_of}
-use Rattle.cfb_directory.specs.Nodes.{AreNodes, no_entry, entry_in, place_in, is_wanted, claims_in}
+use Rattle.cfb_directory.specs.Nodes.{AreStreams, is_wanted, claims_in}
 use Rattle.std.specs.List.{All}
 use Rattle.std.specs.Cmp.Lexicographic.{pointwise}
 use Rattle.std.proofs.lemmas.List.Elements.{All-head, All-tail}
@@ -27,10 +27,9 @@ use Rattle.carrier_io.specs.Steps.{stepped}
 use Rattle.cfb_directory.specs.Families.{family_at, index_at}
 use Rattle.cfb_directory.specs.Named.{key_of, first_named, are_apart}
 use Rattle.cfb_directory.specs.Outlines.{linked_of, IsOutline}
-use Rattle.cfb_directory.specs.Shapes.{table_of, key_in, deepest, shape}
+use Rattle.cfb_directory.specs.Shapes.{table_of, deepest, shape}
 use Rattle.cfb_directory.specs.Trees.{Table, built, under, ends}
 use Rattle.cfb_directory.specs.Walks.{directory_of}
-use Rattle.cfb_directory.specs.declared.node.Node.{Node}
 use Rattle.cfb_directory.specs.declared.outline.Outline.{Outline}
 use Rattle.cfb_directory.proofs.KidLaws.{in-left, in-right, self}
 use Rattle.cfb_directory.proofs.NameLaws.{families_apart}
@@ -111,28 +110,26 @@ agrees_from T d streams depth x (node id l r c) linked kids entry place stream =
     second true b h k = absurd (cc)
     second false b h k = k
 
--- the nodes and families of a file speak of its directory
-nodes_agree : (s : State) (outline : Outline) (t : Links) (cs : List Claim) (nodes : List Node) → IsOutline (directory_of s) outline t → (entry_of s 0).kind ≡ 5 → AreNodes s (is_wanted outline.visited (directory_of s)) cs nodes → length nodes ≡ (directory_of s).count → Agrees (table_of nodes outline.families.items) (directory_of s) (λ id. stream_of s.size s.file s.loaded (entry_of s id) (chain_in cs id)) t
-nodes_agree s outline t cs nodes o root are count =
+-- the streams and families of a file speak of its directory
+parts_agree : (s : State) (outline : Outline) (t : Links) (cs : List Claim) (numbers : List ℕ) (views : List StreamView) → IsOutline (directory_of s) outline t → (entry_of s 0).kind ≡ 5 → AreStreams s (is_wanted outline.visited (directory_of s)) cs numbers views → length numbers ≡ (directory_of s).count → Agrees (table_of s numbers views outline.families.items) (directory_of s) (λ id. stream_of s.size s.file s.loaded (entry_of s id) (chain_in cs id)) t
+parts_agree s outline t cs numbers views o root are count =
     let d = directory_of s in
     let l = outline_links d t o.linked in
-    agrees_from (table_of nodes outline.families.items) d _ 1 (d.entry 0).child t l.0 (outline_kids _ t l.1 o.kids)
-    (λ id below. are.entries id (rw count below))
-    (λ id below. are.places id (rw count below))
-    (λ id below there kind. are.streams id (rw count below) (wanted_same d t outline.visited o.marks o.length root id below ∙ rw (there, kind) refl))
+    agrees_from (table_of s numbers views outline.families.items) d _ 1 (d.entry 0).child t l.0 (outline_kids _ t l.1 o.kids)
+    (λ id below. refl)
+    (λ id below. refl)
+    (λ id below there kind. are id (rw count below) (wanted_same d t outline.visited o.marks o.length root id below ∙ rw (there, kind) refl))
 
-pub shape_is : (s : State) (outline : Outline) (t : Links) (cs : List Claim) (nodes : List Node) → IsOutline (directory_of s) outline t → (entry_of s 0).kind ≡ 5 → AreNodes s (is_wanted outline.visited (directory_of s)) cs nodes → length nodes ≡ (directory_of s).count → shape nodes outline.families.items ≡ files_of s.size s.file s.loaded (chain_in cs) t
+pub shape_is : (s : State) (outline : Outline) (t : Links) (cs : List Claim) (numbers : List ℕ) (views : List StreamView) → IsOutline (directory_of s) outline t → (entry_of s 0).kind ≡ 5 → AreStreams s (is_wanted outline.visited (directory_of s)) cs numbers views → length numbers ≡ (directory_of s).count → shape (table_of s numbers views outline.families.items) ≡ files_of s.size s.file s.loaded (chain_in cs) t
 unfolding under
-shape_is s outline t cs nodes o root are count =
+shape_is s outline t cs numbers views o root are count =
     let d = directory_of s in
-    let T = table_of nodes outline.families.items in
+    let T = table_of s numbers views outline.families.items in
     let l = outline_links d t o.linked in
     let deep : levels t + 1 ≤ 102 = levels_bound d 1 (d.entry 0).child t o.few (omega arith) l.0 in
-    let place : place_in nodes 0 ≡ place_of s 0 = are.places 0 (rw count o.some) in
     let tree : under T 102 0 ≡ tree_of d (λ id. stream_of s.size s.file s.loaded (entry_of s id) (chain_in cs id)) t none =
-    ap (λ l. built T (under T 101) l none) (outline_own T.kids t l.1 o.kids) ∙ tree_built T d _ t 101 none (omega arith) (nodes_agree s outline t cs nodes o root are count) in
-    let class : (entry_in nodes 0).class ≡ (entry_of s 0).class = ap (λ (e : Entry). e.class) (are.entries 0 (rw count o.some)) in
-    rw (place, class, tree) refl
+    ap (λ l. built T (under T 101) l none) (outline_own T.kids t l.1 o.kids) ∙ tree_built T d _ t 101 none (omega arith) (parts_agree s outline t cs numbers views o root are count) in
+    rw tree refl
 
 pub shape_ends : (s : State) (outline : Outline) (t : Links) → IsOutline (directory_of s) outline t → (id : ℕ) → ends (family_at outline.families.items) deepest id ≡ true
 shape_ends s outline t o id =
@@ -141,32 +138,13 @@ shape_ends s outline t o id =
     let deep : levels t + 1 ≤ 102 = levels_bound d 1 (d.entry 0).child t o.few (omega arith) l.0 in
     all_ends (family_at outline.families.items) t deepest (omega arith) (outline_kids _ t l.1 o.kids) (outline_own _ t l.1 o.kids) (λ p absent. outline_others _ t p o.kids absent) id
 
-named-same : (key other : ℕ → List ℕ) (n : ℕ) (q xs : List ℕ) → All (λ k. k < n) xs → ((k : ℕ) → k < n → key k ≡ other k) → first_named key q xs ≡ first_named other q xs
-named-same key other n q [] inside same = refl
-named-same key other n q (x ∷ xs) inside same =
-    ap (λ k. cond (pointwise eqb q k) (Some x) (first_named key q xs)) (same x (All-head (λ k. k < n) x xs inside))
-    ∙ ap (λ r. cond (pointwise eqb q (other x)) (Some x) r) (named-same key other n q xs (All-tail (λ k. k < n) x xs inside) same)
-
-pub shape_named : (s : State) (outline : Outline) (t : Links) (wanted : ℕ → Bool) (cs : List Claim) (nodes : List Node) → IsOutline (directory_of s) outline t → AreNodes s wanted cs nodes → length nodes ≡ (directory_of s).count → (p : ℕ) (q : List ℕ) → p < length nodes → index_at outline.families.items p q ≡ first_named (key_in nodes) q (family_at outline.families.items p)
-shape_named s outline t wanted cs nodes o are count p q below =
-    o.names p q (rw (← count) below) ∙ named-same (key_of (directory_of s)) (key_in nodes) (directory_of s).count q (family_at outline.families.items p) (o.inside p) (λ k small. ap (λ (e : Entry). folded (name_of e)) (sym (are.entries k (rw count small))))
-
-apart-same : (key other : ℕ → List ℕ) (n : ℕ) (xs : List ℕ) → All (λ k. k < n) xs → ((k : ℕ) → k < n → key k ≡ other k) → are_apart key xs ≡ are_apart other xs
-apart-same key other n [] inside same = refl
-apart-same key other n (x ∷ xs) inside same =
-    rw (same x (All-head (λ k. k < n) x xs inside), named-same key other n (other x) xs (All-tail (λ k. k < n) x xs inside) same, apart-same key other n xs (All-tail (λ k. k < n) x xs inside) same) refl
-
-key_same : (s : State) (wanted : ℕ → Bool) (cs : List Claim) (nodes : List Node) → AreNodes s wanted cs nodes → length nodes ≡ (directory_of s).count → (k : ℕ) → k < (directory_of s).count → key_in nodes k ≡ key_of (directory_of s) k
-key_same s wanted cs nodes are count k small = ap (λ (e : Entry). folded (name_of e)) (are.entries k (rw count small))
-
-pub shape_apart : (s : State) (outline : Outline) (t : Links) (wanted : ℕ → Bool) (cs : List Claim) (nodes : List Node) → IsOutline (directory_of s) outline t → AreNodes s wanted cs nodes → length nodes ≡ (directory_of s).count → (p : ℕ) → are_apart (key_in nodes) (family_at outline.families.items p) ≡ true
-shape_apart s outline t wanted cs nodes o are count p =
+pub shape_apart : (s : State) (outline : Outline) (t : Links) → IsOutline (directory_of s) outline t → (p : ℕ) → are_apart (key_of (directory_of s)) (family_at outline.families.items p) ≡ true
+shape_apart s outline t o p =
     let d = directory_of s in
     let fam = family_at outline.families.items in
     let l = outline_links d t o.linked in
     let same = outline_families fam t l.1 o.kids in
-    apart-same (key_in nodes) (key_of d) d.count (fam p) (o.inside p) (key_same s wanted cs nodes are count)
-    ∙ elim (cases_Bool (member p (0 ∷ ids t))) [
+    elim (cases_Bool (member p (0 ∷ ids t))) [
       | inl there ↦ families_apart d fam (0 ∷ ids t) p (ap (names_of d) same ∙ o.apart) there
       | inr absent ↦ ap (are_apart (key_of d)) (outline_others fam t p o.kids absent)
     ]
@@ -177,18 +155,13 @@ short_of n units = rw (length-map, length-take n units) (omega arith)
 short_name : (z : ℕ) (b : List ℕ) (o : ℕ) → length (folded (name_of (entry_at z b o))) ≤ 32
 short_name z b o = short_of ((entry_at z b o).name_bytes / 2 - 1) (entry_at z b o).units
 
-pub shape_short : (s : State) (wanted : ℕ → Bool) (cs : List Claim) (nodes : List Node) → AreNodes s wanted cs nodes → (id : ℕ) → length (key_in nodes id) ≤ 32
-shape_short s wanted cs nodes are id =
-    elim (cases_lt id (length nodes)) [
-      | inl below ↦ subst (λ (e : Entry). length (folded (name_of e)) ≤ 32) (sym (are.entries id below)) (short_name s.size s.file (place_of s id))
-      | inr past ↦
-          let over : length (map (λ (n : Node). entry_seen n.entry) nodes) ≤ id = rw length-map past in
-          subst (λ (e : Entry). length (folded (name_of e)) ≤ 32) (sym (get_or_past (map (λ (n : Node). entry_seen n.entry) nodes) id no_entry over)) (omega arith)
-    ]
+-- names are short
+pub short_key : (s : State) (id : ℕ) → length (key_of (directory_of s) id) ≤ 32
+short_key s id = short_name s.size s.file (place_of s id)
 
 -- the whole, where no part stops
-pub open_done : (s : State) (outline : Outline) (t : Links) (cs : List Claim) (nodes : List Node) → load_of s.size s.file ≡ Ok s.loaded → IsOutline (directory_of s) outline t → (entry_of s 0).kind ≡ 5 → claims_in s (filter (is_wanted outline.visited (directory_of s)) (range_with_len 0 (entries s))) (taken_by s.loaded) [] ≡ Ok cs → opened_of s.size s.file ≡ Ok (record { loaded = s.loaded; links = t; claims = cs })
-open_done s outline t cs nodes load o root claims =
+pub open_done : (s : State) (outline : Outline) (t : Links) (cs : List Claim) → load_of s.size s.file ≡ Ok s.loaded → IsOutline (directory_of s) outline t → (entry_of s 0).kind ≡ 5 → claims_in s (filter (is_wanted outline.visited (directory_of s)) (range_with_len 0 (entries s))) (taken_by s.loaded) [] ≡ Ok cs → opened_of s.size s.file ≡ Ok (record { loaded = s.loaded; links = t; claims = cs })
+open_done s outline t cs load o root claims =
     opened_is s.size s.file s.loaded t cs load o.linked o.apart (ap (λ l. claims_in s l (taken_by s.loaded) []) (sym (streams_wanted (directory_of s) t outline.visited o.marks o.length root)) ∙ claims)
 
 pub open_stops : (s : State) (outline : Outline) (t : Links) (e : Stop) → load_of s.size s.file ≡ Ok s.loaded → IsOutline (directory_of s) outline t → (entry_of s 0).kind ≡ 5 → Fails e (claims_in s (filter (is_wanted outline.visited (directory_of s)) (range_with_len 0 (entries s))) (taken_by s.loaded) []) → Fails e (open_of s.size s.file)

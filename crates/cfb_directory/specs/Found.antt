@@ -5,19 +5,19 @@ use Rattle.carrier_model.specs.Files as plain
 use Rattle.carrier_model.specs.Files.{Children, none, storage, stream}
 use Rattle.carrier_model.specs.Lookups.{storage_at}
 use Rattle.carrier_model.specs.Streams.{Stream}
-use Rattle.cfb_directory.specs.Nodes.{entry_in, place_in}
 use Rattle.cfb_directory.specs.Shapes.{tree_at}
+use Rattle.cfb_directory.specs.Shown.{table_in}
 use Rattle.cfb_directory.specs.declared.files.Files.{Files}
 use Rattle.cfb_directory.specs.declared.lookups.Child as rust
 use Rattle.cfb_directory.specs.declared.lookups.StorageId.{StorageId}
 
 -- a storage of these files
 abbrev pub IsThere : Files → StorageId → Type 0
-IsThere f at = at.entry < vec_len f.nodes
+IsThere f at = at.entry < vec_len f.families
 
 -- where its entry lies, its class, and what is below it
 abbrev pub storage_seen : Files → StorageId → plain.Files
-storage_seen f at = record { place = place_in f.nodes.items at.entry; class = (entry_in f.nodes.items at.entry).class; children = tree_at f.nodes.items f.families.items at.entry }
+storage_seen f at = let T = table_in f in record { place = T.place at.entry; class = (T.entry at.entry).class; children = tree_at T at.entry }
 
 -- a child's name, and the storage that it is, if it is one
 pub record Child : Type 0 where

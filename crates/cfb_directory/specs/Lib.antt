@@ -5,6 +5,7 @@ pub mod Nodes
 pub mod Outlines
 pub mod Shapes
 pub mod Shown
+pub mod Spelled
 pub mod Trees
 pub mod Walks
 pub mod Wanted

@@ -11,7 +11,10 @@ use Rattle.cfb_directory.specs.declared.names.NameIndex.{NameIndex}
 abbrev pub found : NameIndex → List ℕ → Option ℕ
 found index q = get_by (λ k. slice_cmp nat_cmp q k.items) index.ids
 
--- the name of an entry, in lower case
+-- the name of an entry, and the same in lower case
+abbrev pub name_at : Directory → ℕ → List ℕ
+name_at d id = name_of (d.entry id)
+
 abbrev pub key_of : Directory → ℕ → List ℕ
 key_of d id = folded (name_of (d.entry id))
 

@@ -1,7 +1,6 @@
--- The entries of a directory with their streams, by number.
+-- The streams of a directory, by the number of their entry.
 use Rattle.std.specs.Prelude.{◌≡◌, ℕ, ◌<◌, List, [], get_or, length, map, sum, Bool, true, false, ◌&&◌, nat_eq, Result, Ok, Err}
 use Rattle.carrier_model.specs.Trail.{Fault}
-use Rattle.carrier_model.specs.Entries.{Entry}
 use Rattle.carrier_model.specs.Files.{Claim, claims_of, chain_in}
 use Rattle.carrier_model.specs.Links.{Directory}
 use Rattle.carrier_model.specs.Loads.{stream_of}
@@ -10,28 +9,17 @@ use Rattle.carrier_io.specs.declared.reasons.Stop.{Stop}
 use Rattle.carrier_io.specs.Reads.{Fails}
 use Rattle.carrier_io.specs.Steps.{stepped}
 use Rattle.cfb_sectors.specs.Seen.{stream as stream_seen}
-use Rattle.cfb_sectors.specs.States.{State, entry_of, place_of}
-use Rattle.cfb_sectors.specs.Views.{entry as entry_seen}
+use Rattle.cfb_sectors.specs.States.{State, entry_of}
 use Rattle.cfb_directory.specs.Walks.{directory_of}
-use Rattle.cfb_directory.specs.declared.node.Node.{Node}
-use Rattle.std.specs.declared.vec.Vec.{Vec}
-use Rattle.std.specs.declared.alloc.Global.{Global}
-
--- no entry and no stream
-abbrev pub no_entry : Entry
-no_entry = record { units = []; name_bytes = 0; kind = 0; left = 0; right = 0; child = 0; class = []; start = 0; size = 0 }
+use Rattle.cfb_directory.specs.declared.streams.Streams.{Streams}
+use Rattle.cfb_sectors.specs.declared.view.StreamView.{StreamView}
 
 abbrev pub no_stream : Stream
 no_stream = record { bytes = []; places = [] }
 
-abbrev pub entry_in : List Node → ℕ → Entry
-entry_in nodes id = get_or (map (λ n. entry_seen n.entry) nodes) id no_entry
-
-abbrev pub place_in : List Node → ℕ → ℕ
-place_in nodes id = get_or (map (λ n. n.place) nodes) id 0
-
-abbrev pub stream_in : List Node → ℕ → Stream
-stream_in nodes id = get_or (map (λ n. stream_seen n.stream) nodes) id no_stream
+-- the stream of an entry, by the number of its view
+abbrev pub stream_at : List ℕ → List StreamView → ℕ → Stream
+stream_at numbers views id = get_or (map stream_seen views) (get_or numbers id 0) no_stream
 
 -- a stream that is marked as visited
 abbrev pub is_wanted : List Bool → Directory → ℕ → Bool
@@ -45,13 +33,11 @@ claims_in s ids long short = claims_of s.size s.file s.loaded (directory_of s) i
 abbrev pub chain_lengths : List Claim → ℕ
 chain_lengths cs = sum (map (λ c. length c.chain) cs)
 
--- the entries of a loaded file, and the wanted streams with their chains
-pub record AreNodes (s : State) (wanted : ℕ → Bool) (cs : List Claim) (nodes : List Node) : Type 0 where
-  pub entries : (id : ℕ) → id < length nodes → entry_in nodes id ≡ entry_of s id
-  pub places : (id : ℕ) → id < length nodes → place_in nodes id ≡ place_of s id
-  pub streams : (id : ℕ) → id < length nodes → wanted id ≡ true → stream_in nodes id ≡ stream_of s.size s.file s.loaded (entry_of s id) (chain_in cs id)
+-- the wanted streams with their chains
+abbrev pub AreStreams : State → (ℕ → Bool) → List Claim → List ℕ → List StreamView → Type 0
+AreStreams s wanted cs numbers views = (id : ℕ) → id < length numbers → wanted id ≡ true → stream_at numbers views id ≡ stream_of s.size s.file s.loaded (entry_of s id) (chain_in cs id)
 
 -- What was answered of these streams: all of them, with as many steps as their chains are long, or the first fault.
-abbrev pub AreClaimed : State → (ℕ → Bool) → ℕ → ℕ → Result (Vec Node Global) Stop → Result (List Claim) Fault → Type 0
-AreClaimed s wanted before after (Ok nodes) read = (cs : List Claim) × (read ≡ Ok cs) × AreNodes s wanted cs nodes.items × (after ≡ stepped before (chain_lengths cs))
+abbrev pub AreClaimed : State → (ℕ → Bool) → ℕ → ℕ → Result Streams Stop → Result (List Claim) Fault → Type 0
+AreClaimed s wanted before after (Ok streams) read = (cs : List Claim) × (read ≡ Ok cs) × AreStreams s wanted cs streams.numbers.items streams.views.items × (after ≡ stepped before (chain_lengths cs))
 AreClaimed s wanted before after (Err e) read = Fails e read

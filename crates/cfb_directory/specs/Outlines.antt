@@ -1,5 +1,5 @@
 -- What a directory has, up to its first fault.
-use Rattle.std.specs.Prelude.{◌≡◌, ℕ, ◌<◌, ◌≤◌, List, [], ◌∷◌, length, vec_len, All, Result, Ok, Err}
+use Rattle.std.specs.Prelude.{◌≡◌, ℕ, ◌<◌, ◌≤◌, List, [], ◌∷◌, length, vec_len, map, All, Result, Ok, Err}
 use Rattle.carrier_model.specs.Trail.{Fault}
 use Rattle.carrier_model.specs.Outcomes.{◌>>=◌}
 use Rattle.carrier_model.specs.Files.{first_link, all_families, names_of}
@@ -7,8 +7,8 @@ use Rattle.carrier_model.specs.Links.{Directory, Links, ids, links_of, no_link}
 use Rattle.carrier_model.specs.Marks.{Marks}
 use Rattle.carrier_io.specs.declared.reasons.Stop.{Stop}
 use Rattle.carrier_io.specs.Reads.{Fails}
-use Rattle.cfb_directory.specs.Families.{family_at, index_at, children_in}
-use Rattle.cfb_directory.specs.Named.{key_of, first_named}
+use Rattle.cfb_directory.specs.Families.{family_at, index_at, names_at, children_in}
+use Rattle.cfb_directory.specs.Named.{key_of, first_named, name_at}
 use Rattle.cfb_directory.specs.Walks.{placed}
 use Rattle.cfb_directory.specs.declared.outline.Outline.{Outline}
 
@@ -28,6 +28,7 @@ pub record IsOutline (d : Directory) (outline : Outline) (t : Links) : Type 0 wh
   pub kids : (p : ℕ) → family_at outline.families.items p ≡ children_in p (placed 0 t)
   pub inside : (p : ℕ) → All (λ k. k < d.count) (family_at outline.families.items p)
   pub names : (p : ℕ) (q : List ℕ) → p < d.count → index_at outline.families.items p q ≡ first_named (key_of d) q (family_at outline.families.items p)
+  pub spelled : (p : ℕ) → p < d.count → names_at outline.families.items p ≡ map (name_at d) (family_at outline.families.items p)
 
 abbrev pub IsOutlined : Directory → Result Outline Stop → Type 0
 IsOutlined d (Ok outline) = (t : Links) × IsOutline d outline t

@@ -4,12 +4,14 @@ ghost use Rattle.carrier_model.specs.Chains.{member};
 ghost use Rattle.carrier_model.specs.Files.{family_names, names_of};
 ghost use Rattle.carrier_io.specs.Reads.{Gives};
 ghost use Rattle.cfb_sectors.specs.States.{entries};
-ghost use Rattle.cfb_directory.specs.Families.{family_at, index_at, children_in};
-ghost use Rattle.cfb_directory.specs.Named.{found, key_of, first_named};
+ghost use Rattle.cfb_directory.specs.Families.{family_at, index_at, names_at, children_in};
+ghost use Rattle.cfb_directory.specs.Named.{found, key_of, first_named, name_at};
+ghost use Rattle.cfb_directory.specs.Spelled.{names_in};
 ghost use Rattle.cfb_directory.specs.Walks.{directory_of, IsInside};
 
 use crate::links::Member;
-use crate::names::{NameIndex, index_names};
+use crate::names::{NameIndex, Named, index_names};
+use crate::spelled::Names;
 use carrier_io::{NoMemory, Stop};
 use cfb_sectors::Sectors;
 use std::alloc::Global;
@@ -18,7 +20,8 @@ use std::alloc::Global;
 #[derive(Drop)]
 pub struct Family {
     pub children: Vec<u32>,
-    pub names: NameIndex,
+    pub index: NameIndex,
+    pub names: Names,
 }
 
 /// So many entries without children.
@@ -26,12 +29,14 @@ fn no_families(alloc: Global, count: u32) -> Result<Vec<Family>, NoMemory>
     ensures count { IfOk result (λ v. vec_len v ≡ count) }
     ensures children { IfOk result (λ v. (p : ℕ) → family_at v.items p ≡ []) }
     ensures names { IfOk result (λ v. (p : ℕ) (q : List ℕ) → p < count → index_at v.items p q ≡ None) }
+    ensures spelled { IfOk result (λ v. (p : ℕ) → names_at v.items p ≡ []) }
 {
     let mut families = Vec::new(alloc);
     for _i in 0..count {
         families.push(Family {
             children: Vec::new(alloc),
-            names: NameIndex::new(alloc),
+            index: NameIndex::new(alloc),
+            names: Names::new(alloc),
         })?;
     }
     Ok(families)
@@ -43,6 +48,7 @@ pub fn group_children(alloc: Global, count: u32, order: &[Member]) -> Result<Vec
     ensures count { IfOk result (λ v. vec_len v ≡ count) }
     ensures children { IfOk result (λ v. (p : ℕ) → family_at v.items p ≡ children_in p order.now) }
     ensures names { IfOk result (λ v. (p : ℕ) (q : List ℕ) → p < count → index_at v.items p q ≡ None) }
+    ensures spelled { IfOk result (λ v. (p : ℕ) → names_at v.items p ≡ []) }
 {
     let mut families = no_families(alloc, count)?;
     for child in order {
@@ -57,9 +63,12 @@ impl Family {
         requires { All (λ n. n < entries sectors.now) self.old.children.items }
         ensures answer { Gives (λ _. tt) result (family_names (directory_of sectors.now) self.old.children.items []) }
         ensures children { self.new.children ≡ self.old.children }
-        ensures named { OnOk result ((q : List ℕ) → found self.new.names q ≡ first_named (key_of (directory_of sectors.now)) q self.old.children.items) }
+        ensures spelled { OnOk result (names_in self.new.names ≡ map (name_at (directory_of sectors.now)) self.old.children.items) }
+        ensures named { OnOk result ((q : List ℕ) → found self.new.index q ≡ first_named (key_of (directory_of sectors.now)) q self.old.children.items) }
     {
-        self.names = index_names(alloc, sectors, &self.children)?;
+        let Named { index, names } = index_names(alloc, sectors, &self.children)?;
+        self.index = index;
+        self.names = names;
         Ok(())
     }
 }
@@ -76,10 +85,12 @@ pub fn index_families(
     requires visits { All (λ n. n < entries sectors.now) visits.now }
     requires inside { (p : ℕ) → All (λ n. n < entries sectors.now) (family_at families.old.items p) }
     requires bare { (p : ℕ) (q : List ℕ) → p < entries sectors.now → index_at families.old.items p q ≡ None }
+    requires unspelled { (p : ℕ) → names_at families.old.items p ≡ [] }
     ensures answer { Gives (λ _. tt) result (names_of (directory_of sectors.now) (map (family_at families.old.items) visits.now)) }
     ensures count { vec_len families.new ≡ vec_len families.old }
     ensures children { (p : ℕ) → family_at families.new.items p ≡ family_at families.old.items p }
     ensures named { OnOk result ((p : ℕ) (q : List ℕ) → p < entries sectors.now → index_at families.new.items p q ≡ first_named (key_of (directory_of sectors.now)) q (cond (member p visits.now) (family_at families.old.items p) [])) }
+    ensures spelled { OnOk result ((p : ℕ) → p < entries sectors.now → names_at families.new.items p ≡ map (name_at (directory_of sectors.now)) (cond (member p visits.now) (family_at families.old.items p) [])) }
 {
     for id in visits {
         families[*id as usize].index(alloc, sectors)?;

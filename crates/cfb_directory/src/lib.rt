@@ -1,15 +1,16 @@
 //! The directory of a compound file: its storages and streams.
 #![tactic(auto)]
 
+mod claiming;
 mod families;
 mod files;
 mod links;
 mod lookups;
 mod names;
-mod node;
-mod nodes;
 mod opening;
 mod outline;
+mod spelled;
+mod streams;
 mod walk;
 mod wanted;
 

@@ -8,15 +8,16 @@ ghost use Rattle.carrier_model.specs.Holds.{FileHolds};
 ghost use Rattle.carrier_io.specs.Reads.{Gives, Reads};
 ghost use Rattle.cfb_directory.specs.Shown.{files, mini_limit};
 
+use crate::claiming::claim_streams;
 use crate::files::Files;
-use crate::nodes::claim_streams;
 use crate::outline::{Outline, read_outline};
 use carrier_io::{Stop, Walk};
 use cfb_sectors::Sectors;
 use std::alloc::Global;
 
-/// Opens a compound file of either version, of at most 268,435,456 bytes. The first fault of its header, its tables, its directory and its
-/// streams, in this order. The walk counts each word of the FAT and the mini FAT that is followed.
+/// Opens a compound file of either version [MS-CFB 2.1], of at most 268,435,456 bytes. The first fault of its header, its
+/// tables, its directory and its streams, in this order. The walk counts each word of the FAT and the mini FAT that is
+/// followed.
 pub fn open_files<'a>(alloc: Global, bytes: &'a [u8], walk: &mut Walk) -> Result<Files<'a>, Stop>
     requires short { length bytes.now ≤ 268435456 }
     ensures answer { Gives files result (open_file bytes.now) }
@@ -27,6 +28,10 @@ pub fn open_files<'a>(alloc: Global, bytes: &'a [u8], walk: &mut Walk) -> Result
 {
     let mut sectors = Sectors::load(alloc, bytes, walk)?;
     let Outline { families, visited } = read_outline(alloc, &sectors)?;
-    let nodes = claim_streams(alloc, &mut sectors, &visited, walk)?;
-    Ok(Files { nodes, families })
+    let streams = claim_streams(alloc, &mut sectors, &visited, walk)?;
+    Ok(Files {
+        sectors,
+        streams,
+        families,
+    })
 }

@@ -8,10 +8,11 @@ use crate::families::{Family, group_children, index_families};
 use crate::links::{Link, Walked};
 use crate::walk::walk_directory;
 use carrier_io::Stop;
+use cfb_sectors::fields::CHILD;
 use cfb_sectors::{SectorMarks, Sectors};
 use std::alloc::Global;
 
-/// The root's number.
+/// The number of the root's entry [MS-CFB 2.6.2].
 pub const ROOT: u32 = 0;
 
 /// The children of each entry, and which entries were visited.
@@ -31,7 +32,7 @@ pub fn read_outline(alloc: Global, sectors: &Sectors<'_>) -> Result<Outline, Sto
     visited.mark(ROOT);
     let first = Link {
         target: sectors.entry(ROOT).child,
-        place: sectors.entry_offset(ROOT) + 76,
+        place: sectors.entry_offset(ROOT) + CHILD as u64,
         depth: 1,
         parent: ROOT,
     };

@@ -3,31 +3,36 @@ ghost use Rattle.std.specs.Prelude.{◌≡◌, ℕ, ◌+◌, ◌<◌, ◌≤◌,
 ghost use Rattle.carrier_model.specs.Links.{visited, is_storage};
 ghost use Rattle.carrier_model.specs.Marks.{Marks, unmarked};
 ghost use Rattle.carrier_io.specs.Reads.{Gives};
-ghost use Rattle.carrier_io.specs.declared.reasons.Stop.TheVariants as stops;
+ghost use Rattle.cfb_sectors.specs.Took.{Tells};
 ghost use Rattle.cfb_sectors.specs.Views.{entry as entry_seen};
 ghost use Rattle.cfb_directory.specs.declared.links.Pending.TheVariants.{Visit, Place};
 ghost use Rattle.cfb_directory.specs.Walks.{directory_of, link_of, walked, walk_of, IsInside, rust_left, rust_right, rust_below};
 
 use crate::links::{Link, Member, Pending, Walked};
 use carrier_io::{Fault, NoMemory, Reason, Stop};
+use cfb_sectors::fields::{CHILD, LEFT, NAME_LENGTH, OBJECT_TYPE, RIGHT, STORAGE, STREAM};
 use cfb_sectors::{Entry, SectorMarks, Sectors};
 use std::alloc::Global;
 
+/// A link that names nothing [MS-CFB 2.6.1].
 const NO_LINK: u32 = 0xFFFF_FFFF;
 
+/// How deep a storage may be; the root has depth 0.
+const DEEPEST: u32 = 100;
+
 /// The fault of this reason at an offset.
-fn fault(reason: Reason, offset: u64) -> Stop
-    ensures { result ≡ stops.Fault (record { reason = reason; offset = offset }) }
+fn fault(reason: Reason, offset: u64) -> Fault
+    ensures { result ≡ record { reason = reason; offset = offset } }
 {
-    Stop::Fault(Fault { reason, offset })
+    Fault { reason, offset }
 }
 
 /// The entry that a link names, which is marked. EntryOutOfRange or EntryShared at the link, BadEntryType or
-/// StorageTooDeep at the entry's type, BadName at its name's length.
+/// StorageTooDeep at the entry's type, BadName at its name's length. [MS-CFB 2.6.1, 2.6.4]
 #[tactic(auto, unfolding(carrier_model::specs::Links::visited))]
-fn visit_entry(sectors: &Sectors<'_>, link: Link, marks: &mut SectorMarks) -> Result<Entry, Stop>
+fn visit_entry(sectors: &Sectors<'_>, link: Link, marks: &mut SectorMarks) -> Result<Entry, Fault>
     requires marks { length marks.old ≡ (directory_of sectors.now).count }
-    ensures answer { (seen : List ℕ) → Marks marks.old seen → Gives entry_seen result (visited (directory_of sectors.now) (link_of link) seen) }
+    ensures answer { (seen : List ℕ) → Marks marks.old seen → Tells entry_seen result (visited (directory_of sectors.now) (link_of link) seen) }
     ensures marked { (seen : List ℕ) → Marks marks.old seen → IfOk result (λ e. Marks marks.new (seen ++ link.target ∷ [])) }
     ensures there { IfOk result (λ e. entry_seen e ≡ (directory_of sectors.now).entry link.target) }
     ensures inside { OnOk result (link.target < (directory_of sectors.now).count) }
@@ -43,14 +48,14 @@ fn visit_entry(sectors: &Sectors<'_>, link: Link, marks: &mut SectorMarks) -> Re
     if marks.has(link.target) {
         return Err(fault(Reason::EntryShared, link.place));
     }
-    if entry.kind != 1 && entry.kind != 2 {
-        return Err(fault(Reason::BadEntryType, place + 66));
+    if entry.kind != STORAGE && entry.kind != STREAM {
+        return Err(fault(Reason::BadEntryType, place + OBJECT_TYPE as u64));
     }
     if entry.name_bytes % 2 != 0 || entry.name_bytes < 2 || entry.name_bytes > 64 {
-        return Err(fault(Reason::BadName, place + 64));
+        return Err(fault(Reason::BadName, place + NAME_LENGTH as u64));
     }
-    if entry.kind == 1 && link.depth > 100 {
-        return Err(fault(Reason::StorageTooDeep, place + 66));
+    if entry.kind == STORAGE && link.depth > DEEPEST {
+        return Err(fault(Reason::StorageTooDeep, place + OBJECT_TYPE as u64));
     }
     marks.mark(link.target);
     Ok(entry)
@@ -62,20 +67,20 @@ fn put_off(pending: &mut Vec<Pending>, link: Link, entry: Entry, place: u64) -> 
     requires small { place ≤ 268435456 }
     ensures { OnOk result (pending.new.items ≡ pending.old.items ++ Visit (rust_below link (entry_seen entry) place) ∷ Visit (rust_right link (entry_seen entry) place) ∷ Place (record { parent = link.parent; id = link.target }) ∷ Visit (rust_left link (entry_seen entry) place) ∷ []) }
 {
-    let (target, depth) = if entry.kind == 1 {
+    let (target, depth) = if entry.kind == STORAGE {
         (entry.child, link.depth + 1)
     } else {
         (NO_LINK, 0)
     };
     pending.push(Pending::Visit(Link {
         target,
-        place: place + 76,
+        place: place + CHILD as u64,
         depth,
         parent: link.target,
     }))?;
     pending.push(Pending::Visit(Link {
         target: entry.right,
-        place: place + 72,
+        place: place + RIGHT as u64,
         depth: link.depth,
         parent: link.parent,
     }))?;
@@ -85,14 +90,14 @@ fn put_off(pending: &mut Vec<Pending>, link: Link, entry: Entry, place: u64) -> 
     }))?;
     pending.push(Pending::Visit(Link {
         target: entry.left,
-        place: place + 68,
+        place: place + LEFT as u64,
         depth: link.depth,
         parent: link.parent,
     }))?;
     Ok(())
 }
 
-/// The entries under a link, each with its storage. The first fault of the walk.
+/// The entries under a link, each with its storage. The first fault of the walk. [MS-CFB 2.6.4]
 pub fn walk_directory(
     alloc: Global,
     sectors: &Sectors<'_>,

@@ -1,4 +1,5 @@
 pub mod ClaimLaws
 pub mod ListLaws
 pub mod LoadLaws
+pub mod PartLaws
 pub mod StreamLaws

@@ -1,3 +1,4 @@
 pub mod Seen
 pub mod States
+pub mod Took
 pub mod Views

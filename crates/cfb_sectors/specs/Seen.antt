@@ -1,5 +1,6 @@
 -- The bytes of a view, and where they lie.
 use Rattle.std.specs.Prelude.{ℕ, zero, suc, ◌+◌, ◌-◌, ◌*◌, List, get_or, take, drop, min}
+use Rattle.std.specs.Int.{div_ceil}
 use Rattle.carrier_model.specs.Streams.{Stream, stream_at, places_of, content}
 use Rattle.cfb_sectors.specs.declared.view.StreamView.{StreamView}
 
@@ -12,6 +13,10 @@ bytes_of v = content v.file.now (places v)
 
 abbrev pub stream : StreamView → Stream
 stream v = record { bytes = bytes_of v; places = places v }
+
+-- how many pieces there are
+abbrev pub piece_count : StreamView → ℕ
+piece_count v = div_ceil v.len v.each
 
 -- the piece of this index; the last one ends with the stream
 abbrev pub piece_of : StreamView → ℕ → List ℕ

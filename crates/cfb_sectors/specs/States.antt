@@ -1,9 +1,10 @@
 -- A loaded file, with marks of the sectors that are taken.
-use Rattle.std.specs.Prelude.{◌≡◌, ℕ, ◌*◌, ◌+◌, ◌<◌, ◌≤◌, List, Bool, true, length, All, IsTrue, Result, Ok}
+use Rattle.std.specs.Prelude.{◌≡◌, ℕ, ◌*◌, ◌+◌, ◌<◌, ◌≤◌, List, Bool, true, length, All, IsTrue, if◌then◌else◌, Result, Ok}
+use Rattle.std.specs.Int.{div_ceil}
 use Rattle.carrier_model.specs.Trail.{Fault}
 use Rattle.carrier_model.specs.Outcomes.{mapped}
 use Rattle.carrier_model.specs.Entries.{Entry, entry_at, entry_count, entry_place}
-use Rattle.carrier_model.specs.Loads.{Loaded, mini_bound, claim_of, stream_of}
+use Rattle.carrier_model.specs.Loads.{Loaded, mini_bound, is_long, claim_of, stream_of}
 use Rattle.carrier_model.specs.Sectors.{is_size, sector_count, whole_count}
 use Rattle.carrier_model.specs.Streams.{Stream, places_of, starts_of, lie_below}
 
@@ -35,6 +36,10 @@ entry_of s id = entry_at s.size s.file (place_of s id)
 
 abbrev pub entries : State → ℕ
 entries s = entry_count s.size s.loaded.directory
+
+-- how many pieces its stream has: sectors, or mini sectors
+abbrev pub pieces_of : State → ℕ → ℕ
+pieces_of s id = div_ceil (entry_of s id).size (if is_long (entry_of s id) then s.size else 64)
 
 -- the chain and the stream of an entry, clear of the earlier chains in the table and in the mini FAT
 abbrev pub chain_claimed : State → ℕ → List ℕ → List ℕ → Result (List ℕ) Fault

@@ -13,13 +13,14 @@ use crate::marks::SectorMarks;
 use carrier_io::{Fault, Reason, Stop, Walk};
 use std::alloc::Global;
 
+/// The word that ends a chain [MS-CFB 2.1].
 const END_OF_CHAIN: u32 = 0xFFFF_FFFE;
 
 /// Where a chain starts, and the offset of the field that says so.
 #[derive(Clone, Copy)]
 pub struct Start {
     pub sector: u32,
-    pub field: u64,
+    pub field: usize,
 }
 
 /// What is asked of a chain's sectors.
@@ -65,7 +66,7 @@ pub fn take_chain(
         marks,
         walk,
     )?;
-    let offset = named_at(table, start.field, &chain);
+    let offset = named_at(table, start.field as u64, &chain);
     if stop != END_OF_CHAIN {
         let reason = stop_reason(stop, limits.bound, &chain, marks);
         return Err(Stop::Fault(Fault { reason, offset }));

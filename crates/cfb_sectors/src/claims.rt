@@ -1,5 +1,6 @@
 //! Streams as views of the file, their sectors taken.
 ghost use Rattle.std.specs.Prelude.{◌≡◌, ℕ, ◌+◌, ◌*◌, ◌≤◌, ◌<◌, ◌^◌, ◌++◌, List, true, length, IfOk, All, vec_len, Ok};
+ghost use Rattle.std.specs.Int.{div_ceil};
 ghost use Rattle.carrier_model.specs.Outcomes.{mapped};
 ghost use Rattle.carrier_model.specs.Loads.{long_chain_of, short_chain_of, long_stream, short_stream, mini_bound};
 ghost use Rattle.carrier_model.specs.Marks.{Marks, unmarked};
@@ -7,7 +8,7 @@ ghost use Rattle.carrier_model.specs.Sectors.{sector_count};
 ghost use Rattle.carrier_model.specs.Streams.{places_of, starts_of, lie_below};
 ghost use Rattle.carrier_io.specs.Reads.{Gives};
 ghost use Rattle.carrier_io.specs.Steps.{stepped};
-ghost use Rattle.cfb_sectors.specs.Seen.{stream};
+ghost use Rattle.cfb_sectors.specs.Seen.{stream, piece_count};
 ghost use Rattle.cfb_sectors.specs.Views.{table, mini_seen};
 
 use crate::fat::Fat;
@@ -17,7 +18,7 @@ use crate::view::StreamView;
 use carrier_io::{Stop, Walk};
 use std::alloc::Global;
 
-/// The stream that an entry tells of, whose chain is in the table.
+/// The stream that an entry tells of, whose chain is in the FAT. [MS-CFB 2.3, 2.6.3]
 pub fn view_long<'a>(
     alloc: Global,
     bytes: &'a [u8],
@@ -31,6 +32,7 @@ pub fn view_long<'a>(
     requires place { wish.entry < 2 ^ 32 }
     requires marks { length marks.old ≡ sector_count fat.now.size bytes.now }
     ensures answer { (earlier : List ℕ) → Marks marks.old earlier → Gives stream result (mapped (long_stream fat.now.size bytes.now wish.size) (long_chain_of fat.now.size bytes.now (table fat.now) wish.start wish.size wish.entry earlier)) }
+    ensures pieces { IfOk result (λ v. piece_count v ≡ div_ceil wish.size fat.now.size) }
     ensures marked { (earlier chain : List ℕ) → Marks marks.old earlier → long_chain_of fat.now.size bytes.now (table fat.now) wish.start wish.size wish.entry earlier ≡ Ok chain → IfOk result (λ _. Marks marks.new (earlier ++ chain)) }
     ensures steps { (earlier chain : List ℕ) → Marks marks.old earlier → long_chain_of fat.now.size bytes.now (table fat.now) wish.start wish.size wish.entry earlier ≡ Ok chain → IfOk result (λ _. walk.new ≡ stepped walk.old (length chain)) }
     ensures length { length marks.new ≡ length marks.old }
@@ -41,7 +43,7 @@ pub fn view_long<'a>(
     Ok(StreamView::new(bytes, taken.starts, fat.size, wish.size as u32))
 }
 
-/// The stream that an entry tells of, whose chain is in the mini FAT.
+/// The stream that an entry tells of, whose chain is in the mini FAT. [MS-CFB 2.4, 2.6.3]
 pub fn view_short<'a>(
     alloc: Global,
     bytes: &'a [u8],
@@ -58,6 +60,7 @@ pub fn view_short<'a>(
     requires within { lie_below (length bytes.now) (places_of from.now.fat.size (starts_of from.now.fat.size from.now.stream.items) from.now.size) ≡ true }
     requires below { All (λ n. n < 524288) from.now.stream.items }
     ensures answer { (earlier : List ℕ) → Marks marks.old earlier → Gives stream result (mapped (short_stream from.now.fat.size bytes.now (mini_seen from.now) wish.size) (short_chain_of from.now.fat.size (mini_seen from.now) wish.start wish.size wish.entry earlier)) }
+    ensures pieces { IfOk result (λ v. piece_count v ≡ div_ceil wish.size 64) }
     ensures marked { (earlier chain : List ℕ) → Marks marks.old earlier → short_chain_of from.now.fat.size (mini_seen from.now) wish.start wish.size wish.entry earlier ≡ Ok chain → IfOk result (λ _. Marks marks.new (earlier ++ chain)) }
     ensures steps { (earlier chain : List ℕ) → Marks marks.old earlier → short_chain_of from.now.fat.size (mini_seen from.now) wish.start wish.size wish.entry earlier ≡ Ok chain → IfOk result (λ _. walk.new ≡ stepped walk.old (length chain)) }
     ensures length { length marks.new ≡ length marks.old }

@@ -5,12 +5,13 @@ ghost use Rattle.carrier_model.specs.Sectors.{is_size, u16_of, whole_count};
 ghost use Rattle.carrier_model.specs.Entries.{entry_at, entry_count, entry_place, size_at};
 ghost use Rattle.cfb_sectors.specs.Views.{entry};
 
+use crate::fields::{CHILD, CLASS, ENTRY, LEFT, NAME_LENGTH, OBJECT_TYPE, RIGHT, SIZE, START};
 use crate::header::{long, short};
 
-/// A directory entry, with the fields as the file has them.
+/// A directory entry, with the fields as the file has them [MS-CFB 2.6.1].
 #[derive(Clone, Copy)]
 pub struct Entry {
-    /// 0 free, 1 storage, 2 stream, 5 root.
+    /// The object type: 0 free, 1 storage, 2 stream, 5 root.
     pub kind: u8,
     pub units: [u16; 32],
     /// The name's length in bytes, with its null.
@@ -37,7 +38,7 @@ fn read_units(bytes: &[u8], at: usize) -> [u16; 32]
 }
 
 /// The sixteen bytes at a place.
-fn read_class(bytes: &[u8], at: usize) -> [u8; 16]
+pub fn read_class(bytes: &[u8], at: usize) -> [u8; 16]
     requires { at + 16 ≤ length bytes.now }
     ensures { result ≡ take 16 (drop at bytes.now) }
 {
@@ -48,16 +49,16 @@ fn read_class(bytes: &[u8], at: usize) -> [u8; 16]
     class
 }
 
-/// The size of an entry's stream. In version 3, whose sectors have 512 bytes, the high half is zero.
+/// The size of an entry's stream. In version 3, whose sectors have 512 bytes, the high half counts as zero. [MS-CFB 2.6.3]
 fn read_size(bytes: &[u8], size: u32, at: usize) -> u64
     requires inside { at + 128 ≤ length bytes.now }
     ensures { result ≡ size_at size bytes.now at }
 {
-    let low = u64::from(long(bytes, at + 120));
+    let low = u64::from(long(bytes, at + SIZE));
     if size == 512 {
         low
     } else {
-        low + u64::from(long(bytes, at + 124)) * 0x1_0000_0000
+        low + u64::from(long(bytes, at + SIZE + 4)) * 0x1_0000_0000
     }
 }
 
@@ -67,14 +68,14 @@ pub fn read_entry(bytes: &[u8], size: u32, at: usize) -> Entry
     ensures { entry result ≡ entry_at size bytes.now at }
 {
     Entry {
-        kind: bytes[at + 66],
+        kind: bytes[at + OBJECT_TYPE],
         units: read_units(bytes, at),
-        name_bytes: short(bytes, at + 64),
-        left: long(bytes, at + 68),
-        right: long(bytes, at + 72),
-        child: long(bytes, at + 76),
-        class: read_class(bytes, at + 80),
-        start: long(bytes, at + 116),
+        name_bytes: short(bytes, at + NAME_LENGTH),
+        left: long(bytes, at + LEFT),
+        right: long(bytes, at + RIGHT),
+        child: long(bytes, at + CHILD),
+        class: read_class(bytes, at + CLASS),
+        start: long(bytes, at + START),
         size: read_size(bytes, size, at),
     }
 }
@@ -89,7 +90,7 @@ pub fn entry_place(bytes: &[u8], size: u32, directory: &[u32], id: u32) -> usize
     ensures inside { result + 128 ≤ length bytes.now }
 {
     let size = size as usize;
-    let at = 128 * id as usize;
+    let at = ENTRY as usize * id as usize;
     let sector = directory[at / size] as usize;
     (sector + 1) * size + at % size
 }

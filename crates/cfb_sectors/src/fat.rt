@@ -7,20 +7,37 @@ ghost use Rattle.carrier_io.specs.Steps.{stepped};
 use carrier_io::Walk;
 use std::alloc::Global;
 
-/// A table's words, and the sectors that hold them. The word of a sector names the next one of its chain.
+/// The words of the FAT or of the mini FAT, and the sectors that hold them [MS-CFB 2.3, 2.4]. The word of a sector names
+/// the next one of its chain. No word is read without a step of a walk.
 #[derive(Drop)]
 pub struct Fat {
-    pub size: u32,
-    pub words: Vec<u32>,
-    pub sectors: Vec<u32>,
+    pub(crate) size: u32,
+    words: Vec<u32>,
+    sectors: Vec<u32>,
     ghost sized: { IsTrue (is_size size) },
     ghost whole: { 4 * vec_len words ≡ size * vec_len sectors },
     ghost few: { vec_len words ≤ 67108864 },
 }
 
 impl Fat {
+    /// The table of these words, which these sectors of so many bytes hold.
+    pub(crate) fn new(size: u32, words: Vec<u32>, sectors: Vec<u32>) -> Fat
+        requires sized { IsTrue (is_size size) }
+        requires whole { 4 * vec_len words ≡ size * vec_len sectors }
+        requires few { vec_len words ≤ 67108864 }
+        ensures size { result.size ≡ size }
+        ensures words { result.words ≡ words }
+        ensures sectors { result.sectors ≡ sectors }
+    {
+        Fat {
+            size,
+            words,
+            sectors,
+        }
+    }
+
     /// The table without words.
-    pub fn empty(alloc: Global, size: u32) -> Fat
+    pub(crate) fn empty(alloc: Global, size: u32) -> Fat
         requires { IsTrue (is_size size) }
         ensures size { result.size ≡ size }
         ensures words { result.words.items ≡ [] }
@@ -35,12 +52,13 @@ impl Fat {
 
     /// How many words there are.
     pub fn len(&self) -> u32
-        ensures { result ≡ vec_len self.now.words }
+        ensures count { result ≡ vec_len self.now.words }
+        ensures few { result ≤ 67108864 }
     {
         self.words.len() as u32
     }
 
-    /// The word of a sector. One step of the walk.
+    /// The word of a sector [MS-CFB 2.3]. One step of the walk.
     pub fn next(&self, sector: u32, walk: &mut Walk) -> u32
         requires { sector < vec_len self.now.words }
         ensures word { result ≡ word self.now.words.items sector }

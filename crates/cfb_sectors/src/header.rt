@@ -2,16 +2,21 @@
 ghost use Rattle.std.specs.Prelude.{◌≡◌, ℕ, ◌+◌, ◌≤◌, length, IfOk, IsTrue};
 ghost use Rattle.carrier_model.specs.Sectors.{is_size, sector_count, u16_of, u32_of};
 ghost use Rattle.carrier_model.specs.Tables.{major, sector_shift, sector_size, header_of};
-ghost use Rattle.carrier_io.specs.Reads.{Gives};
-ghost use Rattle.carrier_io.specs.declared.reasons.Stop.TheVariants as stops;
+ghost use Rattle.cfb_sectors.specs.Took.{Tells};
 ghost use Rattle.cfb_sectors.specs.Views.{head};
 
-use carrier_io::{Fault, Reason, Stop};
+use crate::fields::{
+    BYTE_ORDER, CUTOFF, DIRECTORY, FAT_COUNT, MAJOR, MINI_FAT, MINI_SHIFT, SECTOR_SHIFT,
+};
+use carrier_io::{Fault, Reason};
 
-/// How many bytes the header has, and a sector of version 3.
+/// How many bytes the header has, and a sector of version 3 [MS-CFB 2.2].
 const HEADER: u32 = 512;
 
-/// What the header says, and how many bytes a sector has.
+/// How many bytes a sector of version 4 has [MS-CFB 2.2].
+const SECTOR_4: u32 = 4096;
+
+/// What the header says, and how many bytes a sector has [MS-CFB 2.2].
 #[derive(Clone, Copy)]
 pub struct Header {
     pub size: u32,
@@ -21,10 +26,13 @@ pub struct Header {
 }
 
 /// The fault of this reason at an offset.
-pub fn fault(reason: Reason, offset: u64) -> Stop
-    ensures { result ≡ stops.Fault (record { reason = reason; offset = offset }) }
+pub fn fault(reason: Reason, offset: usize) -> Fault
+    ensures { result ≡ record { reason = reason; offset = offset } }
 {
-    Stop::Fault(Fault { reason, offset })
+    Fault {
+        reason,
+        offset: offset as u64,
+    }
 }
 
 /// The number in two bytes of the file.
@@ -51,7 +59,11 @@ fn sector_size(bytes: &[u8]) -> u32
     ensures size { result ≡ sector_size bytes.now }
     ensures known { IsTrue (is_size result) }
 {
-    if short(bytes, 26) == 4 { 4096 } else { HEADER }
+    if short(bytes, MAJOR) == 4 {
+        SECTOR_4
+    } else {
+        HEADER
+    }
 }
 
 /// The major version that has sectors of this size.
@@ -77,46 +89,46 @@ pub fn sector_count(bytes: &[u8], size: u32) -> usize
     (bytes.len() - 1) / size as usize
 }
 
-/// The header, or its first fault at the field; FileTruncated at the input's length.
+/// The header, or its first fault at the field; FileTruncated at the input's length. [MS-CFB 2.2]
 #[tactic(auto, unfolding(carrier_model::specs::Tables::header_of))]
-pub fn read_header(bytes: &[u8]) -> Result<Header, Stop>
+pub fn read_header(bytes: &[u8]) -> Result<Header, Fault>
     requires { length bytes.now ≤ 268435456 }
     ensures size { IfOk result (λ h. h.size ≡ sector_size bytes.now) }
     ensures known { IfOk result (λ h. IsTrue (is_size h.size)) }
     ensures long { IfOk result (λ h. h.size ≤ length bytes.now) }
     ensures count { IfOk result (λ h. h.fat_count ≤ sector_count h.size bytes.now) }
-    ensures answer { Gives head result (header_of (sector_size bytes.now) bytes.now) }
+    ensures answer { Tells head result (header_of (sector_size bytes.now) bytes.now) }
 {
     if bytes.len() < HEADER as usize {
-        return Err(fault(Reason::FileTruncated, bytes.len() as u64));
+        return Err(fault(Reason::FileTruncated, bytes.len()));
     }
     if long(bytes, 0) != 0xE011_CFD0 || long(bytes, 4) != 0xE11A_B1A1 {
         return Err(fault(Reason::BadFileSignature, 0));
     }
     let size = sector_size(bytes);
-    if short(bytes, 26) != major(size) {
-        return Err(fault(Reason::BadVersion, 26));
+    if short(bytes, MAJOR) != major(size) {
+        return Err(fault(Reason::BadVersion, MAJOR));
     }
-    if short(bytes, 28) != 0xFFFE {
-        return Err(fault(Reason::BadHeader, 28));
+    if short(bytes, BYTE_ORDER) != 0xFFFE {
+        return Err(fault(Reason::BadHeader, BYTE_ORDER));
     }
-    if short(bytes, 30) != sector_shift(size) {
-        return Err(fault(Reason::BadHeader, 30));
+    if short(bytes, SECTOR_SHIFT) != sector_shift(size) {
+        return Err(fault(Reason::BadHeader, SECTOR_SHIFT));
     }
-    if short(bytes, 32) != 6 {
-        return Err(fault(Reason::BadHeader, 32));
+    if short(bytes, MINI_SHIFT) != 6 {
+        return Err(fault(Reason::BadHeader, MINI_SHIFT));
     }
-    if long(bytes, 56) != 4096 {
-        return Err(fault(Reason::BadHeader, 56));
+    if long(bytes, CUTOFF) != 4096 {
+        return Err(fault(Reason::BadHeader, CUTOFF));
     }
-    let fat_count = long(bytes, 44);
+    let fat_count = long(bytes, FAT_COUNT);
     if fat_count == 0 || fat_count as usize > sector_count(bytes, size) {
-        return Err(fault(Reason::BadFatCount, 44));
+        return Err(fault(Reason::BadFatCount, FAT_COUNT));
     }
     Ok(Header {
         size,
         fat_count,
-        directory: long(bytes, 48),
-        mini_fat: long(bytes, 60),
+        directory: long(bytes, DIRECTORY),
+        mini_fat: long(bytes, MINI_FAT),
     })
 }

@@ -5,6 +5,7 @@ mod chains;
 mod claims;
 mod entry;
 mod fat;
+pub mod fields;
 mod following;
 mod header;
 mod lists;

@@ -5,10 +5,12 @@ ghost use Rattle.carrier_model.specs.Sectors.{is_size, u32_of, sector_count, who
 ghost use Rattle.carrier_model.specs.Tables.{sector_of, fat_place, fat_sectors_of, difat_of, difat_count};
 ghost use Rattle.carrier_io.specs.Reads.{Gives};
 ghost use Rattle.carrier_io.specs.Reasons.{number_of};
+ghost use Rattle.cfb_sectors.specs.Took.{Tells};
 
+use crate::fields::{DIFAT, FAT_NAMED, FAT_NAMES};
 use crate::header::{fault, long};
 use crate::marks::SectorMarks;
-use carrier_io::{Reason, Stop};
+use carrier_io::{Fault, Reason, Stop};
 use std::alloc::Global;
 
 /// The sector that is named at a place, which is marked. SectorOutOfRange, the reason given for a marked one, or
@@ -20,13 +22,13 @@ fn take_sector(
     place: usize,
     why: Reason,
     marks: &mut SectorMarks,
-) -> Result<u32, Stop>
+) -> Result<u32, Fault>
     requires size { IsTrue (is_size size) }
     requires long { size ≤ length bytes.now }
     requires short { length bytes.now ≤ 268435456 }
     requires inside { place + 4 ≤ length bytes.now }
     requires marks { length marks.old ≡ sector_count size bytes.now }
-    ensures answer { (earlier : List ℕ) → Marks marks.old earlier → Gives (λ n. n) result (sector_of size bytes.now place (number_of why) earlier) }
+    ensures answer { (earlier : List ℕ) → Marks marks.old earlier → Tells (λ n. n) result (sector_of size bytes.now place (number_of why) earlier) }
     ensures marked { (earlier : List ℕ) → Marks marks.old earlier → IfOk result (λ n. Marks marks.new (earlier ++ n ∷ [])) }
     ensures below { IfOk result (λ n. n < whole_count size bytes.now) }
     ensures length { length marks.new ≡ length marks.old }
@@ -34,32 +36,32 @@ fn take_sector(
 {
     let sector = long(bytes, place);
     if sector as usize >= marks.len() {
-        return Err(fault(Reason::SectorOutOfRange, place as u64));
+        return Err(fault(Reason::SectorOutOfRange, place));
     }
     if marks.has(sector) {
-        return Err(fault(why, place as u64));
+        return Err(fault(why, place));
     }
     if sector as usize >= (bytes.len() - size) / size {
-        return Err(fault(Reason::FileTruncated, place as u64));
+        return Err(fault(Reason::FileTruncated, place));
     }
     marks.mark(sector);
     Ok(sector)
 }
 
-/// How many DIFAT sectors a table of so many sectors has.
+/// How many DIFAT sectors a FAT of so many sectors has. [MS-CFB 2.5]
 pub fn difat_count(size: u32, count: u32) -> u32
     requires size { IsTrue (is_size size) }
     requires small { count < 2 ^ 31 }
     ensures { result ≡ difat_count size count }
 {
-    if count <= 109 {
+    if count <= FAT_NAMED {
         0
     } else {
-        (count - 109).div_ceil(size / 4 - 1)
+        (count - FAT_NAMED).div_ceil(size / 4 - 1)
     }
 }
 
-/// The DIFAT's sectors, which are marked; the first is named at 68.
+/// The DIFAT's sectors, which are marked; the header names the first. [MS-CFB 2.5]
 pub fn take_difat(
     alloc: Global,
     bytes: &[u8],
@@ -79,7 +81,7 @@ pub fn take_difat(
     ensures bounded { unmarked marks.new ≤ unmarked marks.old }
 {
     let mut difat = Vec::new(alloc);
-    let mut place = 68;
+    let mut place = DIFAT;
     for _i in 0..count {
         let sector = take_sector(bytes, size, place, Reason::Cycle, marks)?;
         difat.push(sector)?;
@@ -88,23 +90,24 @@ pub fn take_difat(
     Ok(difat)
 }
 
-/// Where the table's sector of this index is named.
+/// Where the FAT's sector of this index is named: in the header, or in a DIFAT sector. [MS-CFB 2.5]
 fn fat_place(size: usize, difat: &[u32], i: usize) -> usize
     requires size { IsTrue (is_size size) }
     requires small { i < 2 ^ 32 }
     requires named { i < 109 + (size / 4 - 1) * length difat.now }
     ensures { result ≡ fat_place size difat.now i }
 {
-    if i < 109 {
-        76 + 4 * i
+    let named = FAT_NAMED as usize;
+    if i < named {
+        FAT_NAMES + 4 * i
     } else {
         let each = size / 4 - 1;
-        let holder = difat[(i - 109) / each];
-        (holder as usize + 1) * size + 4 * ((i - 109) % each)
+        let holder = difat[(i - named) / each];
+        (holder as usize + 1) * size + 4 * ((i - named) % each)
     }
 }
 
-/// The table's sectors, which are marked.
+/// The FAT's sectors, which are marked. [MS-CFB 2.3, 2.5]
 pub fn take_fat_sectors(
     alloc: Global,
     bytes: &[u8],

@@ -12,6 +12,7 @@ ghost use Rattle.cfb_sectors.specs.Views.{tables};
 
 use crate::chains::{Limits, Start, take_chain};
 use crate::fat::Fat;
+use crate::fields::DIRECTORY;
 use crate::header::{Header, read_header, sector_count};
 use crate::lists::{difat_count, take_difat, take_fat_sectors};
 use crate::marks::SectorMarks;
@@ -19,7 +20,7 @@ use crate::words::read_words;
 use carrier_io::{Stop, Walk};
 use std::alloc::Global;
 
-/// The header, the table and the directory's chain, with marks of what they take.
+/// The header, the FAT and the directory's chain, with marks of what they take [MS-CFB 2.2, 2.3, 2.6].
 #[derive(Drop)]
 pub struct Tables {
     pub header: Header,
@@ -63,17 +64,13 @@ pub fn load_tables(alloc: Global, bytes: &[u8], walk: &mut Walk) -> Result<Table
     let difat = take_difat(alloc, bytes, size, count, &mut marks)?;
     let sectors = take_fat_sectors(alloc, bytes, size, header.fat_count, &difat, &mut marks)?;
     let words = read_words(alloc, bytes, size, &sectors)?;
-    let fat = Fat {
-        size: header.size,
-        words,
-        sectors,
-    };
+    let fat = Fat::new(header.size, words, sectors);
     let start = Start {
         sector: header.directory,
-        field: 48,
+        field: DIRECTORY,
     };
     let limits = Limits {
-        bound: marks.len().min(fat.words.len()) as u32,
+        bound: marks.len().min(fat.len() as usize) as u32,
         whole: ((bytes.len() - size) / size) as u32,
         need: 1,
     };

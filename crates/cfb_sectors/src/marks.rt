@@ -4,7 +4,7 @@ ghost use Rattle.std.specs.Prelude.{◌≡◌, ℕ, ◌<◌, List, Bool, false, 
 use std::alloc::{AllocError, Global};
 use std::marker::Model;
 
-/// One mark for each sector of a table: whether a chain or list has taken it.
+/// One mark for each sector of a table, or for each entry of a directory: whether a chain, a list or a walk has taken it.
 #[derive(Drop)]
 pub struct SectorMarks {
     bits: Vec<bool>,
@@ -26,12 +26,14 @@ impl SectorMarks {
         })
     }
 
+    /// How many marks there are.
     pub fn len(&self) -> usize
         ensures { result ≡ length self.now }
     {
         self.bits.len()
     }
 
+    /// Whether a sector is taken.
     pub fn has(&self, sector: u32) -> bool
         requires { sector < length self.now }
         ensures { result ≡ get_or self.now sector false }
@@ -39,6 +41,7 @@ impl SectorMarks {
         self.bits[sector as usize]
     }
 
+    /// Takes a sector.
     pub fn mark(&mut self, sector: u32)
         requires { sector < length self.old }
         ensures { self.new ≡ set self.old sector true }

@@ -11,13 +11,14 @@ ghost use Rattle.cfb_sectors.specs.Views.{table, mini_seen};
 
 use crate::chains::{Limits, Start, take_chain};
 use crate::fat::Fat;
+use crate::fields::MINI_FAT;
 use crate::marks::SectorMarks;
 use crate::streams::{Mini, Wish, take_long_chain};
 use crate::words::read_words;
 use carrier_io::{Stop, Walk};
 use std::alloc::Global;
 
-/// The mini FAT from its first sector, which the header names at 60.
+/// The mini FAT from its first sector, which the header names. [MS-CFB 2.4]
 fn take_mini_fat(
     alloc: Global,
     bytes: &[u8],
@@ -41,20 +42,16 @@ fn take_mini_fat(
     let size = fat.size as usize;
     let start = Start {
         sector: first,
-        field: 60,
+        field: MINI_FAT,
     };
     let limits = Limits {
-        bound: marks.len().min(fat.words.len()) as u32,
+        bound: marks.len().min(fat.len() as usize) as u32,
         whole: ((bytes.len() - size) / size) as u32,
         need: 0,
     };
     let sectors = take_chain(alloc, fat, start, limits, marks, walk)?;
     let words = read_words(alloc, bytes, size, &sectors)?;
-    Ok(Fat {
-        size: fat.size,
-        words,
-        sectors,
-    })
+    Ok(Fat::new(fat.size, words, sectors))
 }
 
 /// The mini FAT and the mini stream that the root's entry at a place tells of; none where its size is 0.

@@ -6,13 +6,14 @@ ghost use Rattle.carrier_model.specs.Sectors.{sector_count};
 ghost use Rattle.carrier_model.specs.Tables.{sector_size};
 ghost use Rattle.carrier_io.specs.Reads.{Gives};
 ghost use Rattle.carrier_io.specs.Steps.{stepped};
-ghost use Rattle.cfb_sectors.specs.States.{State, IsKept, entries, entry_of, place_of, chain_claimed, stream_claimed};
-ghost use Rattle.cfb_sectors.specs.Seen.{stream};
+ghost use Rattle.cfb_sectors.specs.States.{State, IsKept, entries, entry_of, place_of, pieces_of, chain_claimed, stream_claimed};
+ghost use Rattle.cfb_sectors.specs.Seen.{stream, piece_count};
 ghost use Rattle.cfb_sectors.specs.Views.{table, mini_seen, entry};
 
 use crate::claims::{view_long, view_short};
-use crate::entry::{Entry, entry_place, read_entry};
+use crate::entry::{Entry, entry_place, read_class, read_entry};
 use crate::fat::Fat;
+use crate::fields::{CLASS, ENTRY, OBJECT_TYPE, ROOT};
 use crate::header::fault;
 use crate::loading::{Tables, load_tables, no_marks};
 use crate::marks::SectorMarks;
@@ -23,10 +24,11 @@ use carrier_io::{Reason, Stop, Walk};
 use std::alloc::Global;
 use std::marker::Model;
 
-/// A stream of so many bytes has a chain in the table, a shorter one in the mini FAT.
+/// A stream of so many bytes has a chain in the FAT, a shorter one in the mini FAT [MS-CFB 2.2].
 const LONG: u64 = 4096;
 
-/// A compound file whose header, tables and directory chain are read, with marks of the sectors that are taken.
+/// A compound file [MS-CFB 2.1] whose header, tables and directory chain are read, with marks of the sectors that are
+/// taken.
 #[derive(Drop)]
 pub struct Sectors<'a> {
     bytes: &'a [u8],
@@ -47,8 +49,9 @@ impl<'a> Model for Sectors<'a> {
 }
 
 impl<'a> Sectors<'a> {
-    /// Reads the header, the tables, the directory's chain and the mini stream's chain. The first fault of these, at the
-    /// field or word that names what is wrong.
+    /// Reads the header, the DIFAT, the FAT, the directory's chain, the mini FAT and the mini stream's chain [MS-CFB 2.2 to
+    /// 2.6], of a file of at most 268,435,456 bytes. The first fault of these, at the field or word that names what is
+    /// wrong. The walk counts each word that is followed.
     #[tactic(auto, unfolding(carrier_model::specs::Loads::load_of))]
     pub fn load(alloc: Global, bytes: &'a [u8], walk: &mut Walk) -> Result<Sectors<'a>, Stop>
         requires short { length bytes.now ≤ 268435456 }
@@ -74,16 +77,16 @@ impl<'a> Sectors<'a> {
         } = load_tables(alloc, bytes, walk)?;
         let place = entry_place(bytes, fat.size, &directory, 0);
         let root = read_entry(bytes, fat.size, place);
-        if root.kind != 5 {
-            return Err(fault(Reason::BadEntryType, place as u64 + 66));
+        if root.kind != ROOT {
+            return Err(Stop::Fault(fault(Reason::BadEntryType, place + OBJECT_TYPE)));
         }
         let wish = Wish {
             start: root.start,
             size: root.size,
-            entry: place as u64,
+            entry: place,
         };
         let mini = load_mini(alloc, bytes, &fat, header.mini_fat, wish, &mut marks, walk)?;
-        let count = (mini.size.div_ceil(64) as usize).min(mini.fat.words.len());
+        let count = (mini.size.div_ceil(64) as usize).min(mini.fat.len() as usize);
         let mini_marks = no_marks(alloc, count)?;
         Ok(Sectors {
             bytes,
@@ -96,14 +99,14 @@ impl<'a> Sectors<'a> {
         })
     }
 
-    /// How many entries the directory has.
+    /// How many entries the directory has [MS-CFB 2.6].
     pub fn entries(&self) -> u32
         ensures { result ≡ entries self.now }
     {
-        self.fat.size / 128 * self.directory.len() as u32
+        self.fat.size / ENTRY * self.directory.len() as u32
     }
 
-    /// An entry of the directory.
+    /// An entry of the directory [MS-CFB 2.6.1].
     pub fn entry(&self, id: u32) -> Entry
         requires { id < entries self.now }
         ensures { entry result ≡ entry_of self.now id }
@@ -115,6 +118,23 @@ impl<'a> Sectors<'a> {
         )
     }
 
+    /// The object type of an entry [MS-CFB 2.6.1].
+    pub fn kind(&self, id: u32) -> u8
+        requires { id < entries self.now }
+        ensures { result ≡ (entry_of self.now id).kind }
+    {
+        self.bytes[entry_place(self.bytes, self.fat.size, &self.directory, id) + OBJECT_TYPE]
+    }
+
+    /// The class of an entry [MS-CFB 2.6.1].
+    pub fn class(&self, id: u32) -> [u8; 16]
+        requires { id < entries self.now }
+        ensures { result ≡ (entry_of self.now id).class }
+    {
+        let place = entry_place(self.bytes, self.fat.size, &self.directory, id);
+        read_class(self.bytes, place + CLASS)
+    }
+
     /// The file offset of an entry's first byte.
     pub fn entry_offset(&self, id: u32) -> u64
         requires { id < entries self.now }
@@ -124,7 +144,7 @@ impl<'a> Sectors<'a> {
         entry_place(self.bytes, self.fat.size, &self.directory, id) as u64
     }
 
-    /// The table.
+    /// The FAT [MS-CFB 2.3].
     pub fn table(&self) -> &Fat
         ensures table { table result.now ≡ self.now.loaded.table }
         ensures size { result.now.size ≡ self.now.size }
@@ -132,7 +152,7 @@ impl<'a> Sectors<'a> {
         &self.fat
     }
 
-    /// The mini FAT, which has no words where the mini stream is empty.
+    /// The mini FAT [MS-CFB 2.4], which has no words where the mini stream is empty.
     pub fn mini_table(&self) -> &Fat
         ensures table { table result.now ≡ self.now.loaded.mini.table }
         ensures size { result.now.size ≡ self.now.size }
@@ -140,13 +160,14 @@ impl<'a> Sectors<'a> {
         &self.mini.fat
     }
 
-    /// The stream of an entry, whose sectors are marked. An empty stream takes none. SectorOutOfRange, Cycle, Shared or
+    /// The stream of an entry [MS-CFB 2.6.3], whose sectors are marked. An empty stream takes none. SectorOutOfRange, Cycle, Shared or
     /// ShortChain at the field or word that names what may not follow; FileTruncated at the entry's size. After a fault
     /// some sectors stay marked.
     #[tactic(auto, unfolding(carrier_model::specs::Loads::claim_of))]
     pub fn claim(&mut self, alloc: Global, id: u32, walk: &mut Walk) -> Result<StreamView<'a>, Stop>
         requires { id < entries self.old }
         ensures answer { (long short : List ℕ) → Marks self.old.marks long → Marks self.old.mini_marks short → Gives stream result (stream_claimed self.old id long short) }
+        ensures pieces { IfOk result (λ v. piece_count v ≡ pieces_of self.old id) }
         ensures marked { (long short chain : List ℕ) → Marks self.old.marks long → Marks self.old.mini_marks short → chain_claimed self.old id long short ≡ Ok chain → IfOk result (λ _. Marks self.new.marks (long ++ long_part (entry_of self.old id) chain) × Marks self.new.mini_marks (short ++ short_part (entry_of self.old id) chain)) }
         ensures steps { (long short chain : List ℕ) → Marks self.old.marks long → Marks self.old.mini_marks short → chain_claimed self.old id long short ≡ Ok chain → IfOk result (λ _. walk.new ≡ stepped walk.old (length chain)) }
         ensures same { self.new ≡ record self.old { marks = self.new.marks; mini_marks = self.new.mini_marks } }
@@ -158,7 +179,7 @@ impl<'a> Sectors<'a> {
         let wish = Wish {
             start: entry.start,
             size: entry.size,
-            entry: place as u64,
+            entry: place,
         };
         if entry.size == 0 {
             Ok(StreamView::empty(alloc))

@@ -10,6 +10,7 @@ ghost use Rattle.cfb_sectors.specs.Views.{table, mini_seen};
 
 use crate::chains::{Limits, Start, take_chain};
 use crate::fat::Fat;
+use crate::fields::{SIZE, START};
 use crate::header::fault;
 use crate::marks::SectorMarks;
 use carrier_io::{Reason, Stop, Walk};
@@ -20,7 +21,7 @@ use std::alloc::{AllocError, Global};
 pub struct Wish {
     pub start: u32,
     pub size: u64,
-    pub entry: u64,
+    pub entry: usize,
 }
 
 /// The sectors of a stream, and where each begins: in the file, or for mini sectors in the mini stream.
@@ -131,10 +132,10 @@ pub fn take_long_chain(
     ensures bounded { walk.new + unmarked marks.new ≤ walk.old + unmarked marks.old }
     ensures grows { walk.old ≤ walk.new }
 {
-    let bound = marks.len().min(fat.words.len()) as u32;
+    let bound = marks.len().min(fat.len() as usize) as u32;
     let start = Start {
         sector: wish.start,
-        field: wish.entry + 116,
+        field: wish.entry + START,
     };
     let limits = Limits {
         bound,
@@ -144,7 +145,7 @@ pub fn take_long_chain(
     let chain = take_chain(alloc, fat, start, limits, marks, walk)?;
     let starts = sector_starts(alloc, fat.size, &chain)?;
     if !lie_below(&starts, fat.size as usize, wish.size as usize, bytes.len()) {
-        return Err(fault(Reason::FileTruncated, wish.entry + 120));
+        return Err(Stop::Fault(fault(Reason::FileTruncated, wish.entry + SIZE)));
     }
     Ok(Chained { chain, starts })
 }
@@ -176,7 +177,7 @@ pub fn take_short_chain(
     let bound = marks.len() as u32;
     let start = Start {
         sector: wish.start,
-        field: wish.entry + 116,
+        field: wish.entry + START,
     };
     let limits = Limits {
         bound,
@@ -186,7 +187,7 @@ pub fn take_short_chain(
     let chain = take_chain(alloc, &from.fat, start, limits, marks, walk)?;
     let starts = offsets_of(alloc, &chain)?;
     if !lie_below(&starts, 64, wish.size as usize, from.size as usize) {
-        return Err(fault(Reason::FileTruncated, wish.entry + 120));
+        return Err(Stop::Fault(fault(Reason::FileTruncated, wish.entry + SIZE)));
     }
     Ok(Chained { chain, starts })
 }

@@ -138,6 +138,10 @@ fn streams(rt: HostRuntime) -> Result<(), Fail> {
     assert_eq!(rt; file_offset(&view, 1), 2561);
     assert_eq!(rt; view.byte(1), 2);
     assert_eq!(rt; view.number(1, 3), 0x04_0302);
+    assert_eq!(rt; view.u16_at(1), 0x0302);
+    assert_eq!(rt; view.u32_at(0), 0x0403_0201);
+    assert_eq!(rt; view.u64_at(2), 0x0403);
+    assert_eq!(rt; view.rest(30).len(), 2);
     let copy = view.copy()?;
     assert_eq!(rt; copy.len(), 32);
     let first = view.prefix(2)?;
@@ -145,5 +149,43 @@ fn streams(rt: HostRuntime) -> Result<(), Fail> {
     assert_eq!(rt; first.pieces(), 1);
     let empty = StreamView::empty(rt.alloc());
     assert_eq!(rt; empty.len(), 0);
+    Ok(())
+}
+
+/// The four bytes at a place of entry 5's stream, and the number in them.
+fn four_bytes(alloc: Global, bytes: &[u8], at: usize) -> Result<([u8; 4], u32), Fail> {
+    if bytes.len() > 3072 || at > 64 {
+        return Err("too long")?;
+    }
+    let mut walk = Walk::new();
+    let mut sectors = Sectors::load(alloc, bytes, &mut walk)?;
+    if sectors.entries() < 6 {
+        return Err("no entry")?;
+    }
+    let view = sectors.claim(alloc, 5, &mut walk)?;
+    if view.len() < 68 {
+        return Err("short")?;
+    }
+    let mut field = [0; 4];
+    view.copy_range(at, &mut field);
+    Ok((field, view.u32_at(at)))
+}
+
+#[test]
+fn across_pieces(rt: HostRuntime) -> Result<(), Fail> {
+    let mut file = small_file(rt.alloc())?;
+    let falling = [
+        (1144, 128),
+        (1780, 1),
+        (1784, 68),
+        (2052, 0),
+        (2684, 0x0605_0000),
+    ];
+    for (at, value) in falling {
+        put(&mut file, at, value);
+    }
+    let (field, number) = four_bytes(rt.alloc(), file.as_slice(), 62)?;
+    assert_eq!(rt; field, [5, 6, 1, 2]);
+    assert_eq!(rt; number, 0x0201_0605);
     Ok(())
 }

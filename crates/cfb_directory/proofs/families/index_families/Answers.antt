@@ -1,11 +1,12 @@
-use Rattle.std.proofs.Common.{◌≡◌, ◌<◌, ℕ, List, [], length, get_or, sym, ◌∙◌, ap, rules, Ok}
+use Rattle.std.proofs.Common.{◌≡◌, ◌<◌, ℕ, List, [], length, get_or, map, sym, ◌∙◌, ap, rules, Ok}
 use Rattle.std.proofs.lemmas.List.{get_or-map}
 use Rattle.std.proofs.lemmas.Result.{err_from_is_err_and}
 use Rattle.carrier_model.specs.Files.{family_names}
 use Rattle.cfb_directory.specs.Families.{family_at}
-use Rattle.cfb_directory.specs.Named.{found, key_of, first_named}
+use Rattle.cfb_directory.specs.Named.{found, key_of, first_named, name_at}
+use Rattle.cfb_directory.specs.Spelled.{names_in}
 use Rattle.cfb_directory.specs.Walks.{directory_of}
-use Rattle.cfb_directory.proofs.FamilyLaws.{family_same, index_more, names_step, names_stop, names_done}
+use Rattle.cfb_directory.proofs.FamilyLaws.{family_same, index_more, spelled_more, names_step, names_stop, names_done}
 use Rattle.cfb_directory.proofs.families.index_families.Goals as goal
 
 pub returns-in_err-index-clause-answer : goal.returns-in_err-index-clause-answer
@@ -31,11 +32,13 @@ loop-id-preserved c =
     let old = c.index_mut.result.now in
     let children : old.children.items ≡ family_at c.args.families.now.items x = ap (λ f. f.children.items) c.index_mut.ensures.value ∙ (sym (get_or-map (λ f. f.children.items) c.loop-id.families.items x old [] inside) ∙ c.loop-id.invariant.children x) in
     let here : family_names d (family_at c.args.families.now.items x) [] ≡ Ok tt = rw (← children) c.in_ok-index.ensures.answer in
-    let named : (q : List ℕ) → found c.index.new.self.names q ≡ first_named (key_of d) q (family_at c.args.families.now.items x) = λ q. rw (← children) (c.in_ok-index.ensures.named q) in
+    let named : (q : List ℕ) → found c.index.new.self.index q ≡ first_named (key_of d) q (family_at c.args.families.now.items x) = λ q. rw (← children) (c.in_ok-index.ensures.named q) in
+    let spelled : names_in c.index.new.self.names ≡ map (name_at d) (family_at c.args.families.now.items x) = rw (← children) c.in_ok-index.ensures.spelled in
     record {
       count = c.loop-id.invariant.count;
       children = λ p. family_same c.loop-id.families.items x c.index.new.self old c.index_mut.ensures.value c.in_ok-index.ensures.children p ∙ c.loop-id.invariant.children p;
       named = λ p q below. index_more (key_of d) (family_at c.args.families.now.items) c.loop-id.families.items c.args.visits.now c.loop-id.id-index c.index.new.self c.loop-id-test.true inside named p q (c.loop-id.invariant.named p q below);
+      spelled = λ p below. spelled_more (name_at d) (family_at c.args.families.now.items) c.loop-id.families.items c.args.visits.now c.loop-id.id-index c.index.new.self c.loop-id-test.true inside spelled p (c.loop-id.invariant.spelled p below);
       so_far = names_step d (family_at c.args.families.now.items) c.args.visits.now c.loop-id.id-index _ c.loop-id-test.true c.loop-id.invariant.so_far here;
     }
 

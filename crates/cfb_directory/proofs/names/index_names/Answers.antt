@@ -1,8 +1,9 @@
-use Rattle.std.proofs.Common.{◌≡◌, take, get_or, sym, ◌∙◌, ap, subst, None, Some, cond, nat_eq}
+use Rattle.std.proofs.Common.{◌≡◌, take, get_or, ◌++◌, ◌∷◌, [], sym, ◌∙◌, ap, subst, None, Some, cond, nat_eq}
 use Rattle.std.specs.Prelude.{IsSome}
+use Rattle.std.proofs.lemmas.List.{map_more}
 use Rattle.std.specs.Cmp.Lexicographic.{pointwise}
 use Rattle.carrier_model.specs.Files.{folded, name_of}
-use Rattle.cfb_directory.specs.Named.{key_of, first_named}
+use Rattle.cfb_directory.specs.Named.{key_of, first_named, name_at}
 use Rattle.cfb_directory.specs.Walks.{directory_of}
 use Rattle.cfb_directory.proofs.NameLaws.{family_step, family_stop, family_done, family_more}
 use Rattle.cfb_directory.proofs.names.index_names.Goals as goal
@@ -26,6 +27,7 @@ loop-id-preserved c =
     let none : first_named (key_of d) (key_of d x) (take i family) ≡ None = sym (c.loop-id.invariant.named (key_of d x)) ∙ put.0 in
     record {
       named = λ q. put.1 q ∙ (ap (cond (pointwise nat_eq (key_of d x) q) (Some x)) (c.loop-id.invariant.named q) ∙ sym (family_more d q family i c.loop-id-test.true none));
+      spelled = c.in_ok-push.ensures ∙ rw (c.loop-id.invariant.spelled, c.name-in-loop-id.ensures ∙ ap name_of c.entry-entry.ensures) (sym (map_more (name_at d) family i 0 c.loop-id-test.true));
       so_far = family_step d family i _ c.loop-id-test.true c.loop-id.invariant.so_far none;
     }
 

@@ -8,7 +8,7 @@ use Rattle.cfb_sectors.specs.Views.{entry as entry_seen}
 use Rattle.cfb_directory.specs.Families.{family_at, children_in}
 use Rattle.carrier_model.specs.Chains.{member}
 use Rattle.carrier_io.specs.Reads.{Fails}
-use Rattle.cfb_directory.specs.Named.{key_of, first_named}
+use Rattle.cfb_directory.specs.Named.{key_of, first_named, name_at}
 use Rattle.cfb_directory.specs.Walks.{directory_of, walked, placed}
 use Rattle.cfb_directory.proofs.KidLaws.{children-inside}
 use Rattle.cfb_directory.proofs.OutlineLaws.{outline_links, outline_families, outline_known, names_stop, root_marks, root_length, link_is, outline_tree}
@@ -57,5 +57,9 @@ returns c =
             ∙ (ap (λ l. first_named (key_of d) q (cond (member p l) (family_at c.in_ok-families.families.items p) [])) visits
             ∙ (ap (first_named (key_of d) q) (outline_known (family_at c.in_ok-families.families.items) found.0 p same)
             ∙ ap (first_named (key_of d) q) (sym (c.in_ok-index_families.ensures.children p))));
+        spelled = λ p below. c.in_ok-index_families.ensures.spelled p below
+            ∙ (ap (λ l. map (name_at d) (cond (member p l) (family_at c.in_ok-families.families.items p) [])) visits
+            ∙ (ap (map (name_at d)) (outline_known (family_at c.in_ok-families.families.items) found.0 p same)
+            ∙ ap (map (name_at d)) (sym (c.in_ok-index_families.ensures.children p))));
       },
     )

@@ -5,6 +5,7 @@ use Rattle.std.proofs.Common.{Some}
 use Rattle.std.proofs.lemmas.List.{append_assoc, append-nil}
 use Rattle.std.proofs.lemmas.List.Elements.{All-cons, All-nil, All-pop, All-push}
 use Rattle.carrier_model.specs.Marks.{Marks}
+use Rattle.carrier_io.specs.declared.reasons.Stop.TheVariants as stops
 use Rattle.cfb_directory.specs.declared.links.Pending.TheVariants.{Visit, Place}
 use Rattle.cfb_directory.specs.Walks.{directory_of, IsInside, IsSafe}
 use Rattle.cfb_sectors.specs.Views.{entry as entry_seen}
@@ -42,7 +43,7 @@ returns-in_err-entry-in-Visit-clause-answer c =
     let p = err_from_is_err_and c.from_residual-in_err-entry-in-Visit.result c.from_residual-in_err-entry-in-Visit.ensures.1 in
     λ seen h.
     let before = c.loop-next.invariant.so_far seen h in
-    rw (p.1, p.2) (stop_step (directory_of c.args.sectors.now) _ c.loop-next.order.items c.loop-next.visits.items _ _ _ c.in-Visit.link c.in_err-entry-in-Visit.field-0.0 before.1 popped c.if-link.true (c.in_err-entry-in-Visit.ensures.answer _ before.0))
+    rw (p.1, p.2) (stop_step (directory_of c.args.sectors.now) _ c.loop-next.order.items c.loop-next.visits.items _ _ _ c.in-Visit.link (stops.Fault c.in_err-entry-in-Visit.field-0.0) before.1 popped c.if-link.true (c.in_err-entry-in-Visit.ensures.answer _ before.0))
 
 pub loop-next-preserved-in-Continue-branch-5 : goal.loop-next-preserved-in-Continue-branch-5
 loop-next-preserved-in-Continue-branch-5 c =

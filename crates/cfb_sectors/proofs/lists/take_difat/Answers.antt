@@ -4,6 +4,7 @@ use Rattle.std.proofs.lemmas.Result.{err_from_is_err_and}
 use Rattle.std.proofs.lemmas.List.{append_assoc}
 use Rattle.std.proofs.lemmas.List.Elements.{All-push}
 use Rattle.carrier_model.specs.Sectors.{whole_count}
+use Rattle.carrier_io.specs.declared.reasons.Stop.TheVariants as stops
 use Rattle.carrier_model.proofs.PlaceLaws.{last_word}
 use Rattle.cfb_sectors.proofs.ListLaws.{difat_step, difat_halt, difat_done}
 use Rattle.cfb_sectors.proofs.lists.take_difat.Goals as goal
@@ -11,7 +12,7 @@ use Rattle.cfb_sectors.proofs.lists.take_difat.Goals as goal
 pub returns-in_err-sector-clause-answer : goal.returns-in_err-sector-clause-answer
 returns-in_err-sector-clause-answer c = λ e h.
     let p = err_from_is_err_and c.from_residual.result c.from_residual.ensures.1 in
-    rw (p.1, p.2) (difat_halt c.args.size c.args.count c.loop-i._i c.loop-i.place c.args.bytes.now e c.loop-i.difat.items c.in_err-sector.field-0.0 _ (omega arith) (c.loop-i.invariant.so_far e h) (c.in_err-sector.ensures.answer (e ++ c.loop-i.difat.items) (c.loop-i.invariant.marked e h)))
+    rw (p.1, p.2) (difat_halt c.args.size c.args.count c.loop-i._i c.loop-i.place c.args.bytes.now e c.loop-i.difat.items (stops.Fault c.in_err-sector.field-0.0) _ (omega arith) (c.loop-i.invariant.so_far e h) (c.in_err-sector.ensures.answer (e ++ c.loop-i.difat.items) (c.loop-i.invariant.marked e h)))
 
 pub loop-i-preserved : goal.loop-i-preserved
 loop-i-preserved c =

@@ -4,13 +4,14 @@ use Rattle.std.proofs.lemmas.Result.{err_from_is_err_and}
 use Rattle.std.proofs.lemmas.List.{append_assoc}
 use Rattle.std.proofs.lemmas.List.Elements.{All-push}
 use Rattle.carrier_model.specs.Sectors.{whole_count}
+use Rattle.carrier_io.specs.declared.reasons.Stop.TheVariants as stops
 use Rattle.cfb_sectors.proofs.ListLaws.{fat_step, fat_halt, fat_done}
 use Rattle.cfb_sectors.proofs.lists.take_fat_sectors.Goals as goal
 
 pub returns-in_err-sector-clause-answer : goal.returns-in_err-sector-clause-answer
 returns-in_err-sector-clause-answer c = λ e h.
     let p = err_from_is_err_and c.from_residual.result c.from_residual.ensures.1 in
-    rw (p.1, p.2) (fat_halt c.args.size c.args.count c.loop-i.i c.fat_place-place.result c.args.bytes.now c.args.difat.now e c.loop-i.fat.items c.in_err-sector.field-0.0 _ (omega arith) (c.loop-i.invariant.so_far e h) c.fat_place-place.ensures (c.in_err-sector.ensures.answer (e ++ c.loop-i.fat.items) (c.loop-i.invariant.marked e h)))
+    rw (p.1, p.2) (fat_halt c.args.size c.args.count c.loop-i.i c.fat_place-place.result c.args.bytes.now c.args.difat.now e c.loop-i.fat.items (stops.Fault c.in_err-sector.field-0.0) _ (omega arith) (c.loop-i.invariant.so_far e h) c.fat_place-place.ensures (c.in_err-sector.ensures.answer (e ++ c.loop-i.fat.items) (c.loop-i.invariant.marked e h)))
 
 pub loop-i-preserved : goal.loop-i-preserved
 loop-i-preserved c =

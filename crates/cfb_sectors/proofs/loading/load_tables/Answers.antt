@@ -36,7 +36,7 @@ returns-in_err-directory-clause-answer c =
     ap (λ l. fat_sectors_of c.in_ok-header.header.fat_count 0 c.in_ok-header.header.size c.args.bytes.now l c.in_ok-difat.difat.items) (sym c.deref.ensures.value) ∙ c.in_ok-sectors.ensures.answer c.in_ok-difat.difat.items one in
     let words : c.in_ok-words.words.items ≡ table_words c.in_ok-header.header.size c.args.bytes.now c.in_ok-sectors.sectors.items =
     c.in_ok-words.ensures.words ∙ ap (table_words c.in_ok-header.header.size c.args.bytes.now) c.deref-2.ensures.value in
-    let here = c.in_err-directory.ensures.answer (c.in_ok-difat.difat.items ++ c.in_ok-sectors.sectors.items) two in
+    let here = rw (c.new-fat.ensures.size, c.new-fat.ensures.words, c.new-fat.ensures.sectors) at c.in_err-directory.ensures.answer (c.in_ok-difat.difat.items ++ c.in_ok-sectors.sectors.items) two in
     rw (p.1, p.2) (subst (λ z. Fails c.in_err-directory.field-0.0 (tables_of z c.args.bytes.now)) said (tables_directory_stops c.in_ok-header.header.size c.args.bytes.now (head c.in_ok-header.header) c.in_ok-difat.difat.items c.in_ok-sectors.sectors.items c.in_ok-words.words.items _ _ c.in_err-directory.field-0.0 header difat fat words (grind (arith, common_steps)) refl here))
 
 pub returns-clause-answer : goal.returns-clause-answer
@@ -52,12 +52,12 @@ returns-clause-answer c =
     ap (λ l. fat_sectors_of c.in_ok-header.header.fat_count 0 c.in_ok-header.header.size c.args.bytes.now l c.in_ok-difat.difat.items) (sym c.deref.ensures.value) ∙ c.in_ok-sectors.ensures.answer c.in_ok-difat.difat.items one in
     let words : c.in_ok-words.words.items ≡ table_words c.in_ok-header.header.size c.args.bytes.now c.in_ok-sectors.sectors.items =
     c.in_ok-words.ensures.words ∙ ap (table_words c.in_ok-header.header.size c.args.bytes.now) c.deref-2.ensures.value in
-    let here = c.in_ok-directory.ensures.answer (c.in_ok-difat.difat.items ++ c.in_ok-sectors.sectors.items) two in
-    tables_moved c.in_ok-header.header.size _ c.args.bytes.now _ said (tables_ok c.in_ok-header.header.size c.args.bytes.now (head c.in_ok-header.header) c.in_ok-difat.difat.items c.in_ok-sectors.sectors.items c.in_ok-words.words.items c.in_ok-directory.directory.items _ _ header difat fat words (grind (arith, common_steps)) refl here)
+    let here = rw (c.new-fat.ensures.size, c.new-fat.ensures.words, c.new-fat.ensures.sectors) at c.in_ok-directory.ensures.answer (c.in_ok-difat.difat.items ++ c.in_ok-sectors.sectors.items) two in
+    rw (c.new-fat.ensures.words, c.new-fat.ensures.sectors) (tables_moved c.in_ok-header.header.size _ c.args.bytes.now _ said (tables_ok c.in_ok-header.header.size c.args.bytes.now (head c.in_ok-header.header) c.in_ok-difat.difat.items c.in_ok-sectors.sectors.items c.in_ok-words.words.items c.in_ok-directory.directory.items _ _ header difat fat words (grind (arith, common_steps)) refl here))
 
 pub returns-clause-marks : goal.returns-clause-marks
 returns-clause-marks c =
     let none = c.in_ok-marks.ensures.none in
     let one = c.in_ok-difat.ensures.marked [] none in
     let two = c.in_ok-sectors.ensures.marked c.in_ok-difat.difat.items one in
-    c.in_ok-directory.ensures.marked (c.in_ok-difat.difat.items ++ c.in_ok-sectors.sectors.items) two
+    rw c.new-fat.ensures.sectors (c.in_ok-directory.ensures.marked (c.in_ok-difat.difat.items ++ c.in_ok-sectors.sectors.items) two)

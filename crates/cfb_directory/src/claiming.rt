@@ -6,50 +6,45 @@ ghost use Rattle.cfb_sectors.specs.States.{entries};
 ghost use Rattle.cfb_directory.specs.Nodes.{is_wanted, claims_in, AreClaimed};
 ghost use Rattle.cfb_directory.specs.Walks.{directory_of};
 
-use crate::node::Node;
+use crate::streams::Streams;
 use carrier_io::{Stop, Walk};
-use cfb_sectors::{Entry, SectorMarks, Sectors, StreamView};
+use cfb_sectors::fields::STREAM;
+use cfb_sectors::{SectorMarks, Sectors, StreamView};
 use std::alloc::Global;
 
-/// Whether an entry is a stream that was visited.
-fn is_visited_stream(visited: &SectorMarks, id: u32, entry: &Entry) -> bool
+/// Whether an entry of this type is a stream that was visited.
+fn is_visited_stream(visited: &SectorMarks, id: u32, kind: u8) -> bool
     requires { id < length visited.now }
-    ensures { result ≡ (get_or visited.now id false && nat_eq entry.now.kind 2) }
+    ensures { result ≡ (get_or visited.now id false && nat_eq kind 2) }
 {
-    visited.has(id) && entry.kind == 2
+    visited.has(id) && kind == STREAM
 }
 
-/// All entries by number, with the streams of those that were visited. The first fault of a stream.
+/// The streams of the entries that were visited. The first fault of a stream.
 pub fn claim_streams<'a>(
     alloc: Global,
     sectors: &mut Sectors<'a>,
     visited: &SectorMarks,
     walk: &mut Walk,
-) -> Result<Vec<Node<'a>>, Stop>
+) -> Result<Streams<'a>, Stop>
     requires { length visited.now ≡ entries sectors.old }
     ensures answer { (long short : List ℕ) → Marks sectors.old.marks long → Marks sectors.old.mini_marks short → AreClaimed sectors.old (is_wanted visited.now (directory_of sectors.old)) walk.old walk.new result (claims_in sectors.old (filter (is_wanted visited.now (directory_of sectors.old)) (range_with_len 0 (entries sectors.old))) long short) }
-    ensures count { IfOk result (λ v. vec_len v ≡ entries sectors.old) }
+    ensures count { IfOk result (λ s. vec_len s.numbers ≡ entries sectors.old) }
+    ensures same { sectors.new ≡ record sectors.old { marks = sectors.new.marks; mini_marks = sectors.new.mini_marks } }
     ensures bounded { walk.new + unmarked sectors.new.marks + unmarked sectors.new.mini_marks ≤ walk.old + unmarked sectors.old.marks + unmarked sectors.old.mini_marks }
     ensures grows { walk.old ≤ walk.new }
 {
-    let mut nodes = Vec::new(alloc);
+    let mut numbers = Vec::new(alloc);
+    let mut views = Vec::new(alloc);
+    views.push(StreamView::empty(alloc))?;
     for id in 0..sectors.entries() {
-        let entry = sectors.entry(id);
-        let place = sectors.entry_offset(id);
-        if is_visited_stream(visited, id, &entry) {
+        if is_visited_stream(visited, id, sectors.kind(id)) {
             let stream = sectors.claim(alloc, id, walk)?;
-            nodes.push(Node {
-                entry,
-                place,
-                stream,
-            })?;
+            numbers.push(views.len() as u32)?;
+            views.push(stream)?;
         } else {
-            nodes.push(Node {
-                entry,
-                place,
-                stream: StreamView::empty(alloc),
-            })?;
+            numbers.push(0)?;
         }
     }
-    Ok(nodes)
+    Ok(Streams { numbers, views })
 }
