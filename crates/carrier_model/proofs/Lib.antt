@@ -5,6 +5,7 @@ pub mod ChildLaws
 pub mod ClaimedLaws
 pub mod Elements
 pub mod EntryLaws
+pub mod FaultPlaces
 pub mod FoundChildren
 pub mod Grammar
 pub mod HoldsLaws
@@ -44,6 +45,7 @@ pub mod Reading
 pub mod Sizes
 pub mod SortedElements
 pub mod SortedLists
+pub mod StableSorts
 pub mod StoreLaws
 pub mod StoreOrder
 pub mod StoreRead

@@ -1,5 +1,5 @@
 //! Storages and streams looked up.
-ghost use Rattle.std.specs.Prelude.{◌≡◌, ◌<◌, ◌+◌, ℕ, List, IfSome, Some, None, slice_get, vec_len, if◌then◌else◌};
+ghost use Rattle.std.specs.Prelude.{◌≡◌, ◌<◌, ◌≤◌, ◌+◌, ℕ, List, IfSome, Some, None, slice_get, vec_len, if◌then◌else◌};
 ghost use Rattle.std.specs.Option.{option_map};
 ghost use Rattle.std.specs.String.{IsUtf16Of};
 ghost use Rattle.carrier_model.specs.Files.{folded};
@@ -128,7 +128,8 @@ impl<'a> Files<'a> {
     /// The file offset of a storage's entry, in bytes [MS-CFB 2.6.1].
     pub fn storage_offset(&self, at: StorageId) -> u64
         requires { IsThere self.now at }
-        ensures { result ≡ (storage_seen self.now at).place }
+        ensures place { result ≡ (storage_seen self.now at).place }
+        ensures low { result ≤ 268435328 }
     {
         self.sectors.entry_offset(at.entry)
     }

@@ -1,11 +1,11 @@
 //! Stores in stores.
-ghost use Rattle.std.specs.Prelude.{◌≡◌, ◌<◌, ◌≤◌, ◌++◌, ◌∷◌, [], length, slice_get, OnOk, OnErr, IfOk, IfErr, IfSome};
+ghost use Rattle.std.specs.Prelude.{◌≡◌, ◌<◌, ◌≤◌, ◌++◌, ◌∷◌, [], length, map, slice_get, OnOk, OnErr, IfOk, IfErr, IfSome};
 ghost use Rattle.std.specs.List.{insert as insert_at};
 ghost use Rattle.carrier_model.specs.FileTrees as plain;
 ghost use Rattle.carrier_model.specs.Places.{IsGap, IsPlace};
 ghost use Rattle.carrier_model.specs.Stores.{AreInOrder};
 ghost use Rattle.msg_tree.specs.Inserting.{HasName, IsMemberRefusal};
-ghost use Rattle.msg_tree.specs.StoreMeaning.{store_of, member_of};
+ghost use Rattle.msg_tree.specs.StoreMeaning.{store_of, entry_of, member_of};
 
 use crate::sibling_order::sibling_order;
 use carrier_io::{Blob, NoMemory};
@@ -16,15 +16,15 @@ use std::cmp::Ordering;
 #[derive(Drop)]
 #[cycle(store)]
 pub struct Store<B: Blob> {
-    class: [u8; 16],
-    entries: Vec<Entry<B>>,
+    pub(crate) class: [u8; 16],
+    pub(crate) entries: Vec<Entry<B>>,
 }
 
 #[derive(Drop)]
 #[cycle(store)]
-struct Entry<B: Blob> {
-    name: Vec<u16>,
-    member: Member<B>,
+pub(crate) struct Entry<B: Blob> {
+    pub(crate) name: Vec<u16>,
+    pub(crate) member: Member<B>,
 }
 
 /// What stands under a name in a store.
@@ -56,6 +56,13 @@ impl<B: Blob> Store<B> {
             class,
             entries: Vec::new(alloc),
         }
+    }
+
+    // The store of entries as they stand.
+    pub(crate) fn of_entries(class: [u8; 16], entries: Vec<Entry<B>>) -> Store<B>
+        ensures { store_of B.bytes result ≡ record { class = class; members = plain.files_from (map (entry_of B.bytes) entries.items) } }
+    {
+        Store { class, entries }
     }
 
     /// The class.

@@ -1,0 +1,4 @@
+mod Children
+mod Made
+mod Sides
+mod WholeFiles

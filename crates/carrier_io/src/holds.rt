@@ -1,0 +1,11 @@
+//! Blobs that other blobs become.
+ghost use Rattle.std.specs.Prelude.{◌≡◌};
+
+use crate::blob::Blob;
+
+/// A blob that another may become. The bytes stay where they are.
+pub trait Holds<B: Blob>: Blob {
+    /// The blob of another's bytes.
+    fn holding(blob: B) -> Self
+        ensures { Self.bytes result ≡ B.bytes blob };
+}
