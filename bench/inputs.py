@@ -158,10 +158,13 @@ def in_order(entries):
 
 
 def link(entries, numbers, row):
-    """Links siblings: one behind the other, or as a balanced tree. Answers the number of the first."""
+    """Links siblings: one behind the other, to the right or to the left, or as a balanced tree. Answers the number of the
+    first."""
     if row:
+        side = "left" if row == "left" else "right"
+        entries = entries if side == "right" else entries[::-1]
         for one, other in itertools.pairwise(entries):
-            one.right = numbers[id(other)]
+            setattr(one, side, numbers[id(other)])
         return numbers[id(entries[0])] if entries else NONE
     spans, top = [(0, len(entries), None, "")], NONE
     while spans:
@@ -197,21 +200,21 @@ def entry_bytes(entry, kind):
 
 
 class Sectors:
-    """Sectors of 512 bytes and the table that links them, in file order or shuffled."""
+    """Sectors of so many bytes and the table that links them, in file order or shuffled."""
 
-    def __init__(self):
-        self.chains = []
+    def __init__(self, size):
+        self.chains, self.size = [], size
 
     def add(self, data):
         self.chains.append(data)
         return len(self.chains) - 1
 
     def lay_out(self, shuffled):
-        counts = [-(-len(data) // 512) for data in self.chains]
+        counts = [-(-len(data) // self.size) for data in self.chains]
         total, fats, difats = sum(counts), 0, 0
         while True:
-            need = -(-(total + fats + difats) // 128)
-            more = max(0, -(-(need - 109) // 127))
+            need = -(-(total + fats + difats) // (self.size // 4))
+            more = max(0, -(-(need - 109) // (self.size // 4 - 1)))
             if (need, more) == (fats, difats):
                 break
             fats, difats = need, more
@@ -221,14 +224,14 @@ class Sectors:
         return counts, places, fats, difats
 
 
-def compound(root, shuffled=False):
-    """The bytes of a compound file of version 3."""
+def compound(root, shuffled=False, size=512):
+    """The bytes of a compound file with sectors of so many bytes: 512 in version 3, 4,096 in version 4."""
     entries = flattened(root)
     numbers = {id(entry): k for k, entry in enumerate(entries)}
     for entry in entries:
         if entry.children:
             entry.child = link(in_order(entry.children), numbers, entry.row)
-    sectors, mini, minifat, large = Sectors(), bytearray(), [], []
+    sectors, mini, minifat, large = Sectors(size), bytearray(), [], []
     for entry in entries:
         if entry.data is None:
             continue
@@ -241,10 +244,10 @@ def compound(root, shuffled=False):
             minifat += [entry.start + k + 1 for k in range(count - 1)] + [END]
             mini += entry.data + bytes(-entry.size % 64)
     root.size = len(mini)
-    rows = -(-len(entries) // 4) * 4
+    rows = -(-len(entries) // (size // 128)) * (size // 128)
     directory = sectors.add(bytes(128 * rows))
     small = sectors.add(bytes(mini)) if mini else None
-    minis = sectors.add(struct.pack(f"<{len(minifat)}I", *minifat) + b"\xff" * (-4 * len(minifat) % 512)) if mini else None
+    minis = sectors.add(struct.pack(f"<{len(minifat)}I", *minifat) + b"\xff" * (-4 * len(minifat) % size)) if mini else None
     counts, places, fats, difats = sectors.lay_out(shuffled)
     table = [FAT] * fats + [DIFAT] * difats + [FREE] * len(places)
     starts, at = [], 0
@@ -268,31 +271,33 @@ def compound(root, shuffled=False):
 
 
 def assembled(sectors, counts, places, table, fats, difats, starts, directory, minis):
-    table += [FREE] * (fats * 128 - len(table))
-    file = bytearray(512 * (1 + fats + difats + len(places)))
+    size, words_each = sectors.size, sectors.size // 4
+    table += [FREE] * (fats * words_each - len(table))
+    file = bytearray(size * (1 + fats + difats + len(places)))
     list_of_fats = list(range(fats))
     first = list_of_fats[:109] + [FREE] * (109 - min(109, fats))
     mini = (END, 0) if minis is None else (starts[minis], counts[minis])
-    file[:512] = header(fats, difats, first, starts[directory], *mini)
-    file[512:512 * (1 + fats)] = struct.pack(f"<{len(table)}I", *table)
+    file[:512] = header(size, fats, difats, first, starts[directory], *mini)
+    file[size:size * (1 + fats)] = struct.pack(f"<{len(table)}I", *table)
     for k in range(difats):
-        words = list_of_fats[109 + 127 * k:109 + 127 * (k + 1)]
-        words += [FREE] * (127 - len(words)) + [fats + k + 1 if k + 1 < difats else END]
-        at = 512 * (1 + fats + k)
-        file[at:at + 512] = struct.pack("<128I", *words)
+        words = list_of_fats[109 + (words_each - 1) * k:109 + (words_each - 1) * (k + 1)]
+        words += [FREE] * (words_each - 1 - len(words)) + [fats + k + 1 if k + 1 < difats else END]
+        at = size * (1 + fats + k)
+        file[at:at + size] = struct.pack(f"<{words_each}I", *words)
     at = 0
     for data, count in zip(sectors.chains, counts):
         for k in range(count):
-            place = 512 * (1 + places[at + k])
-            piece = data[512 * k:512 * (k + 1)]
+            place = size * (1 + places[at + k])
+            piece = data[size * k:size * (k + 1)]
             file[place:place + len(piece)] = piece
         at += count
     return bytes(file)
 
 
-def header(fats, difats, first, directory, minifat, minifats):
+def header(size, fats, difats, first, directory, minifat, minifats):
+    version, shift = (3, 9) if size == 512 else (4, 12)
     return (
-        bytes.fromhex("d0cf11e0a1b11ae1") + bytes(16) + struct.pack("<HHHHH", 0x3E, 3, 0xFFFE, 9, 6) + bytes(6)
+        bytes.fromhex("d0cf11e0a1b11ae1") + bytes(16) + struct.pack("<HHHHH", 0x3E, version, 0xFFFE, shift, 6) + bytes(6)
         + struct.pack("<IIIIIIIII", 0, fats, directory, 0, 4096, minifat, minifats, fats if difats else END, difats)
         + struct.pack("<109I", *first)
     )
@@ -303,18 +308,19 @@ def msg_properties(tags):
     return bytes(32) + b"".join(struct.pack("<IIII", tag, 6, size, 0) for tag, size in tags)
 
 
-def msg_stream(size, shuffled):
+def msg_stream(size, shuffled, sector=512):
     """A message with one value of so many bytes."""
     return compound(Entry("Root Entry", children=[
         Entry("__properties_version1.0", msg_properties([(0x10130102, size)])),
         Entry("__substg1.0_10130102", noise(size)),
-    ]), shuffled)
+    ]), shuffled, sector)
 
 
-def msg_entries(count, row):
-    """A message with so many other streams, all empty, beside its properties or in a storage."""
+def msg_entries(count, row, sector=512):
+    """A message with so many other streams, all empty, beside its properties in a row of left or of right links, or in a
+    storage."""
     strange = [Entry(f"x{k:06}", b"") for k in range(count)]
     properties = Entry("__properties_version1.0", msg_properties([(0x00170003, 1)]))
     if row:
-        return compound(Entry("Root Entry", children=[properties] + strange, row=True))
-    return compound(Entry("Root Entry", children=[properties, Entry("strange", children=strange)]))
+        return compound(Entry("Root Entry", children=[properties] + strange, row=row), size=sector)
+    return compound(Entry("Root Entry", children=[properties, Entry("strange", children=strange)]), size=sector)

@@ -1,10 +1,13 @@
 #!/usr/bin/env python3
 """Times what the program does not reach yet, beside sha256sum on the same file.
 
-    bench/libraries.py          builds small programs over the crates in a copy of this repository, and times them
+    bench/libraries.py [COMMIT] [--folder FOLDER]
 
-Large compound files are opened, a stream is put into a mail, and a mail is read. A line has the processor time (user
-and system, the least of three runs) and its ratio to that of sha256sum. Half as many entries are to take half the time.
+builds small programs over the crates in a copy of this repository, and in one of an earlier commit where that is named,
+and times them side by side. What is built stays in the folder, where one is named. Large compound files of both versions
+are opened, a stream is put into a mail, and a mail is read. A line has the processor time (user and system, the least
+of three runs), its ratio to that of sha256sum, its ratio to the earlier commit's, and the exit code of both. Half as
+many entries are to take half the time; a last line for each shape has that ratio, and the memory for each entry more.
 """
 
 import os
@@ -59,43 +62,62 @@ UNWRAPPING = ("mime_envelope", """use mime_envelope::payload;""", """    match p
 
 PROGRAMS = {"opening": OPENING, "wrapping": WRAPPING, "unwrapping": UNWRAPPING}
 
-CASES = [
-    ("opening", "stream-in-order", lambda: inputs.msg_stream(128 * MIB, False)),
-    ("opening", "stream-shuffled", lambda: inputs.msg_stream(128 * MIB, True)),
-    ("opening", "entries-row", lambda: inputs.msg_entries(200_000, True)),
-    ("opening", "entries-row-half", lambda: inputs.msg_entries(100_000, True)),
-    ("opening", "entries-storage", lambda: inputs.msg_entries(200_000, False)),
-    ("opening", "entries-storage-half", lambda: inputs.msg_entries(100_000, False)),
-    ("wrapping", "wrap", lambda: inputs.tnef_attachment(128 * MIB)),
-    ("unwrapping", "unwrap", lambda: inputs.envelope(inputs.tnef_attachment(128 * MIB))),
-]
+ENTRIES = 200_000
+
+SHAPES = [("left", "left"), ("right", "right"), ("storage", False)]
+
+SECTORS = [("version 3", 512), ("version 4", 4096)]
 
 
-def copied(folder):
-    """A copy of the repository's crates, with a crate for each program."""
+def cases():
+    """The program, the name and the maker of each input."""
+    for version, size in SECTORS:
+        for name, shuffled in (("in order", False), ("shuffled", True)):
+            yield "opening", f"{version} stream {name}", lambda: inputs.msg_stream(128 * MIB, shuffled, size)
+        for name, row in SHAPES:
+            for part, count in (("half", ENTRIES // 2), ("whole", ENTRIES)):
+                yield "opening", f"{version} {name} {part}", lambda: inputs.msg_entries(count, row, size)
+    yield "wrapping", "wrap", lambda: inputs.tnef_attachment(128 * MIB)
+    yield "unwrapping", "unwrap", lambda: inputs.envelope(inputs.tnef_attachment(128 * MIB))
+
+
+def copied(folder, commit):
+    """The crates of this repository, or of an earlier commit, with a crate for each program."""
     top = HERE.parent
-    shutil.copytree(top / "crates", folder / "crates", ignore=shutil.ignore_patterns("out"))
-    for name in ("crates.txt", "HANDLES"):
-        shutil.copy(top / name, folder / name)
+    folder.mkdir(parents=True, exist_ok=True)
+    if commit:
+        files = subprocess.run(
+            ["git", "archive", commit, "crates", "crates.txt", "HANDLES"], cwd=top, capture_output=True, check=True)
+        subprocess.run(["tar", "-x", "-C", str(folder)], input=files.stdout, check=True)
+    else:
+        shutil.copytree(top / "crates", folder / "crates", ignore=shutil.ignore_patterns("out"), dirs_exist_ok=True)
+        for name in ("crates.txt", "HANDLES"):
+            shutil.copy(top / name, folder / name)
     with open(folder / "crates.txt", "a", encoding="utf-8") as crates:
         for name, (libraries, uses, body) in PROGRAMS.items():
             crates.write(f"{name}: carrier_model carrier_io {libraries}\n")
             source = folder / "crates" / name / "src"
-            source.mkdir(parents=True)
+            source.mkdir(parents=True, exist_ok=True)
             text = SOURCE.replace("USES", uses).replace("BODY", body)
             (source / "main.rt").write_text(text, encoding="utf-8")
 
 
-def built(folder, name):
-    """A program of the copy."""
-    crate = folder / "crates" / name
+def built(folder, commit):
+    """The programs of a copy."""
+    if not (folder / "crates.txt").exists():
+        copied(folder, commit)
     quiet = subprocess.DEVNULL
-    subprocess.run(["rt", "run"], cwd=crate, stdin=quiet, stdout=quiet, stderr=quiet, check=False)
-    return crate / "out" / name
+    programs = {}
+    for name in PROGRAMS:
+        crate = folder / "crates" / name
+        if not (crate / "out" / name).exists():
+            subprocess.run(["rt", "run"], cwd=crate, stdin=quiet, stdout=quiet, stderr=quiet, check=False)
+        programs[name] = str(crate / "out" / name)
+    return programs
 
 
-def seconds(words, source):
-    """The least processor time of three runs, and the exit code."""
+def measured(words, source):
+    """The least processor time of three runs in seconds, the most memory in bytes, and the exit code."""
     times = []
     for _ in range(3):
         with open(source, "rb") as given:
@@ -103,20 +125,41 @@ def seconds(words, source):
             _, status, usage = os.wait4(child.pid, 0)
         child.returncode = os.waitstatus_to_exitcode(status)
         times.append(usage.ru_utime + usage.ru_stime)
-    return min(times), child.returncode
+    return min(times), 1024 * usage.ru_maxrss, child.returncode
+
+
+def compared(case, half, whole):
+    """The line of a shape: the whole's time as a multiple of the half's, and the bytes of memory for each entry more,
+    beside those of the file itself."""
+    ratio = whole[0] / half[0]
+    entry = (whole[1] - half[1] - (whole[3] - half[3])) / (ENTRIES - ENTRIES // 2)
+    print(f"{case:28} {ratio:5.2f} times the half  {entry:5.0f} bytes an entry", flush=True)
 
 
 def main():
+    words = sys.argv[1:]
+    named = words.index("--folder") if "--folder" in words else len(words)
+    commit = words[0] if named > 0 else None
     with tempfile.TemporaryDirectory() as name:
-        folder = pathlib.Path(name)
-        copied(folder)
-        programs = {name: str(built(folder, name)) for name in PROGRAMS}
-        source = folder / "input"
-        for name, case, maker in CASES:
+        folder = pathlib.Path(words[named + 1] if named < len(words) else name).resolve()
+        trees = [("now", built(folder / "now", None))]
+        if commit:
+            trees.append((commit, built(folder / commit, commit)))
+        source, halves = pathlib.Path(name) / "input", {}
+        for program, case, maker in cases():
             source.write_bytes(maker())
-            took, code = seconds([programs[name]], source)
-            summed, _ = seconds(["sha256sum"], source)
-            print(f"{case:22} {took:7.3f} s  {took / summed:5.2f} of sha256sum  exit {code}", flush=True)
+            summed = measured(["sha256sum"], source)[0]
+            first = None
+            for label, programs in trees:
+                took, memory, code = measured([programs[program]], source)
+                first = first or took
+                result = (took, memory, code, source.stat().st_size)
+                print(f"{case:28} {label:8} {took:7.3f} s  {took / summed:5.2f} of sha256sum"
+                      f"  {first / took:5.2f} of its time  exit {code}", flush=True)
+                if case.endswith(" half"):
+                    halves[case[:-5], label] = result
+                elif case.endswith(" whole") and code == 0:
+                    compared(f"{case[:-6]} {label}", halves[case[:-6], label], result)
 
 
 if __name__ == "__main__":

@@ -13,18 +13,17 @@ use Rattle.std.proofs.lemmas.Slice.Eq.{bytes_eq-Decides}
 use Rattle.carrier_model.specs.Files.{Files, Children, none, folded, name_of}
 use Rattle.carrier_model.specs.Links.{is_storage}
 use Rattle.carrier_model.specs.Lookups.{Found, storage_named, stream_named}
-use Rattle.cfb_directory.specs.Families.{family_at, index_at, names_at}
+use Rattle.cfb_directory.specs.Families.{index_of, names_of, index_at, names_at}
 use Rattle.std.specs.Option.{option_map}
 use Rattle.carrier_model.specs.Entries.{Entry}
 use Rattle.cfb_sectors.specs.States.{entry_of}
 use Rattle.cfb_directory.specs.declared.files.Files.{Files as Opened}
 use Rattle.cfb_directory.specs.Found.{Child, children_list, child_stream, storage_seen}
-use Rattle.cfb_directory.specs.Named.{found, first_named, are_apart}
+use Rattle.cfb_directory.specs.Named.{first_named, are_apart}
 use Rattle.cfb_directory.specs.Shapes.{deepest, tree_at}
 use Rattle.cfb_directory.specs.Shown.{table_in}
-use Rattle.cfb_directory.specs.Spelled.{names_in}
 use Rattle.cfb_directory.specs.Trees.{Table, built, under, ends}
-use Rattle.cfb_directory.specs.declared.families.Family.{Family}
+use Rattle.cfb_directory.specs.declared.family.Family.{Family}
 use Rattle.cfb_directory.specs.declared.lookups.StorageId.{StorageId}
 use Rattle.cfb_directory.proofs.TreeLaws.{enough}
 
@@ -133,11 +132,11 @@ first_inside key n q (id ∷ ids) inside =
     ]
 
 -- the index of a family, and its names
-pub index_is : (families : List Family) (at : ℕ) (f : Family) (q : List ℕ) → at < length families → f ≡ get_or families at f → index_at families at q ≡ found f.index q
-index_is families at f q inside is = ap (λ (h : List ℕ → Option ℕ). h q) (get_or-map (λ f. found f.index) families at f (λ _. None) inside) ∙ ap (λ g. found g.index q) (sym is)
+pub index_is : (families : List Family) (at : ℕ) (f : Family) (q : List ℕ) → at < length families → f ≡ get_or families at f → index_at families at q ≡ index_of f q
+index_is families at f q inside is = ap (λ (h : List ℕ → Option ℕ). h q) (get_or-map index_of families at f (λ _. None) inside) ∙ ap (λ g. index_of g q) (sym is)
 
-pub names_are : (families : List Family) (at : ℕ) (f : Family) → at < length families → f ≡ get_or families at f → names_at families at ≡ names_in f.names
-names_are families at f inside is = get_or-map (λ f. names_in f.names) families at f [] inside ∙ ap (λ g. names_in g.names) (sym is)
+pub names_are : (families : List Family) (at : ℕ) (f : Family) → at < length families → f ≡ get_or families at f → names_at families at ≡ names_of f
+names_are families at f inside is = get_or-map names_of families at f [] inside ∙ ap names_of (sym is)
 
 -- the storage that an entry is
 pub pick_seen : (f : Opened) (id : ℕ) → option_map (storage_seen f) (cond (is_storage (entry_of f.sectors id)) (Some (record { entry = id })) None) ≡ storage_pick (table_in f) (tree_at (table_in f)) (Some id)

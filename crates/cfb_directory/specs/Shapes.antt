@@ -6,7 +6,7 @@ use Rattle.cfb_sectors.specs.declared.view.StreamView.{StreamView}
 use Rattle.cfb_directory.specs.Families.{family_at}
 use Rattle.cfb_directory.specs.Nodes.{stream_at}
 use Rattle.cfb_directory.specs.Trees.{Table, under}
-use Rattle.cfb_directory.specs.declared.families.Family.{Family}
+use Rattle.cfb_directory.specs.declared.family.Family.{Family}
 
 abbrev pub table_of : State → List ℕ → List StreamView → List Family → Table
 table_of s numbers views families = record { kids = family_at families; entry = entry_of s; place = place_of s; stream = stream_at numbers views }

@@ -1,28 +1,18 @@
 //! The children of each entry.
 ghost use Rattle.std.specs.Prelude.{◌≡◌, ◌<◌, ℕ, List, vec_len, map, cond, [], None, IfOk, OnOk, All};
 ghost use Rattle.carrier_model.specs.Chains.{member};
-ghost use Rattle.carrier_model.specs.Files.{family_names, names_of};
+ghost use Rattle.carrier_model.specs.Files.{names_of};
 ghost use Rattle.carrier_io.specs.Reads.{Gives};
 ghost use Rattle.cfb_sectors.specs.States.{entries};
 ghost use Rattle.cfb_directory.specs.Families.{family_at, index_at, names_at, children_in};
-ghost use Rattle.cfb_directory.specs.Named.{found, key_of, first_named, name_at};
-ghost use Rattle.cfb_directory.specs.Spelled.{names_in};
+ghost use Rattle.cfb_directory.specs.Named.{key_of, first_named, name_at};
 ghost use Rattle.cfb_directory.specs.Walks.{directory_of, IsInside};
 
+use crate::family::Family;
 use crate::links::Member;
-use crate::names::{NameIndex, Named, index_names};
-use crate::spelled::Names;
 use carrier_io::{NoMemory, Stop};
 use cfb_sectors::Sectors;
 use std::alloc::Global;
-
-/// The children of an entry, by number in sibling order and by name. A stream has none.
-#[derive(Drop)]
-pub struct Family {
-    pub children: Vec<u32>,
-    pub index: NameIndex,
-    pub names: Names,
-}
 
 /// So many entries without children.
 fn no_families(alloc: Global, count: u32) -> Result<Vec<Family>, NoMemory>
@@ -33,11 +23,7 @@ fn no_families(alloc: Global, count: u32) -> Result<Vec<Family>, NoMemory>
 {
     let mut families = Vec::new(alloc);
     for _i in 0..count {
-        families.push(Family {
-            children: Vec::new(alloc),
-            index: NameIndex::new(alloc),
-            names: Names::new(alloc),
-        })?;
+        families.push(Family::new())?;
     }
     Ok(families)
 }
@@ -52,25 +38,9 @@ pub fn group_children(alloc: Global, count: u32, order: &[Member]) -> Result<Vec
 {
     let mut families = no_families(alloc, count)?;
     for child in order {
-        families[child.parent as usize].children.push(child.id)?;
+        families[child.parent as usize].push(alloc, child.id)?;
     }
     Ok(families)
-}
-
-impl Family {
-    /// Indexes the children by name. DoubleName at the first entry whose name an earlier one has.
-    fn index(&mut self, alloc: Global, sectors: &Sectors<'_>) -> Result<(), Stop>
-        requires { All (λ n. n < entries sectors.now) self.old.children.items }
-        ensures answer { Gives (λ _. tt) result (family_names (directory_of sectors.now) self.old.children.items []) }
-        ensures children { self.new.children ≡ self.old.children }
-        ensures spelled { OnOk result (names_in self.new.names ≡ map (name_at (directory_of sectors.now)) self.old.children.items) }
-        ensures named { OnOk result ((q : List ℕ) → found self.new.index q ≡ first_named (key_of (directory_of sectors.now)) q self.old.children.items) }
-    {
-        let Named { index, names } = index_names(alloc, sectors, &self.children)?;
-        self.index = index;
-        self.names = names;
-        Ok(())
-    }
 }
 
 /// Indexes the children of these entries by name, one after another. DoubleName at the first entry whose name an earlier

@@ -7,7 +7,7 @@ ghost use Rattle.cfb_directory.specs.Shapes.{deepest};
 ghost use Rattle.cfb_directory.specs.Trees.{ends};
 ghost use Rattle.cfb_directory.specs.Walks.{directory_of};
 
-use crate::families::Family;
+use crate::family::Family;
 use crate::streams::Streams;
 use cfb_sectors::Sectors;
 

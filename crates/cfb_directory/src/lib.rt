@@ -3,6 +3,7 @@
 
 mod claiming;
 mod families;
+mod family;
 mod files;
 mod links;
 mod lookups;

@@ -48,7 +48,7 @@ impl<'a> Files<'a> {
         ensures inside { IfSome result (λ id. id < vec_len self.now.families) }
     {
         let text = wanted_name(text)?;
-        self.families[at.entry as usize].index.get(text.units())
+        self.families[at.entry as usize].named(text.units())
     }
 
     /// The storage that an entry is, if it is one.
@@ -101,9 +101,9 @@ impl<'a> Files<'a> {
         ensures there { IfSome result (λ c. IfSome c.storage (IsThere self.now)) }
     {
         let family = &self.families[at.entry as usize];
-        let entry = *family.children.get(k)?;
+        let entry = *family.children().get(k)?;
         Some(Child {
-            units: family.names.get(k),
+            units: family.name(k),
             storage: self.as_storage(entry),
         })
     }
@@ -113,7 +113,7 @@ impl<'a> Files<'a> {
         requires { IsThere self.now at }
         ensures { option_map (λ v. stream_seen v.now) result ≡ child_stream (storage_seen self.now at).children k }
     {
-        let entry = *self.families[at.entry as usize].children.get(k)?;
+        let entry = *self.families[at.entry as usize].children().get(k)?;
         self.as_stream(entry)
     }
 

@@ -4,7 +4,8 @@ ghost use Rattle.cfb_sectors.specs.States.{entries};
 ghost use Rattle.cfb_directory.specs.Outlines.{IsOutlined};
 ghost use Rattle.cfb_directory.specs.Walks.{directory_of};
 
-use crate::families::{Family, group_children, index_families};
+use crate::families::{group_children, index_families};
+use crate::family::Family;
 use crate::links::{Link, Walked};
 use crate::walk::walk_directory;
 use carrier_io::Stop;

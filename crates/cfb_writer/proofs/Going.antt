@@ -3,7 +3,7 @@ use Rattle.std.proofs.Common.{◌≡◌, ℕ, zero, suc, ◌+◌, ◌%◌, ◌<�
 use Rattle.std.specs.Prelude.{replicate}
 use Rattle.std.specs.Result.{IsErr}
 use Rattle.std.specs.List.{flat_map}
-use Rattle.std.proofs.lemmas.List.{append-nil, drop_more}
+use Rattle.std.proofs.lemmas.List.{drop_more}
 use Rattle.std.proofs.lemmas.List.Concat.{flat_map-append}
 use Rattle.carrier_model.specs.Bytes.{le32}
 use Rattle.carrier_model.specs.Layout.{words_bytes}
@@ -25,9 +25,6 @@ going_more r x more e sum g p = record { front = g.front ++ x; parts = g.parts �
 
 pub going_stops : {a b c : Option (List ℕ)} {n m k s : ℕ} {all rest : List ℕ} {r : Result ℕ Failed} {f : Failed} (x more : List ℕ) → rest ≡ x ++ more → IsErr r → Going a b n m s all rest → Sums {E = Failed} b c m k (Err f) x → Sums {E = Failed} a c n k r all
 going_stops {f = f} x more e err g p = rw (g.parts ∙ ap (λ (z : List ℕ). g.front ++ z) e) (sums_second err g.sums (sums_first {r = Err f} more refl p))
-
-pub going_ends : {a b : Option (List ℕ)} {n m s : ℕ} {all rest : List ℕ} → rest ≡ [] → Going a b n m s all rest → Sums {E = Failed} a b n m (Ok s) all
-going_ends {a} {b} {n} {m} {s} {all} {rest} none g = subst (λ (z : List ℕ). Sums {E = Failed} a b n m (Ok s) z) (sym (g.parts ∙ ap (λ (z : List ℕ). g.front ++ z) none ∙ append-nil g.front)) g.sums
 
 -- zeros in two parts
 pub zeros-parts : (n m k : ℕ) → n ≡ m + k → replicate {A = ℕ} n 0 ≡ replicate {A = ℕ} m 0 ++ replicate {A = ℕ} k 0

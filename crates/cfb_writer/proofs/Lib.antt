@@ -6,6 +6,7 @@ pub mod Going
 mod Grown
 pub mod HeaderList
 pub mod Least
+pub mod Levels
 pub mod Measures
 pub mod Numbered
 pub mod PlanSizes

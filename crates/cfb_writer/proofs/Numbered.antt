@@ -1,6 +1,6 @@
 -- Children numbered and placed, one after the other.
 use Rattle.std.proofs.Common.{◌≡◌, ℕ, zero, suc, ◌+◌, ◌-◌, ◌<◌, ◌≤◌, List, [], ◌∷◌, ◌++◌, length, get_or, take, drop, map, refl, sym, ap, ◌∙◌, append_assoc, arith}
-use Rattle.std.proofs.lemmas.List.{append-nil, drop_more, length-append, length-map, get_or-map, length-take-le, length-drop}
+use Rattle.std.proofs.lemmas.List.{drop_more, length-append, length-map, get_or-map, length-take-le, length-drop}
 use Rattle.carrier_model.specs.FileTrees as trees
 use Rattle.carrier_model.specs.FileTrees.{FileTree, entries_in}
 use Rattle.carrier_model.specs.Layout.{Slot, sibling_numbers, slots_from, middle, top_of, side_links, links_of_siblings}
@@ -66,9 +66,6 @@ numbered_more tree first cs k number next numbers more c at e n is =
       room = omega (arith, is.room, n, ap (λ (x : List Child). entries_in (built tree x)) at, room_then tree c rest);
     }
 
-pub numbered_all : (tree : ℕ → FileTree) (first : ℕ) (cs : List Child) (k number : ℕ) (numbers : List ℕ) → drop k cs ≡ [] → Numbering tree first cs k number numbers → numbers ≡ sibling_numbers first (built tree cs)
-numbered_all tree first cs k number numbers none is = sym (append-nil numbers) ∙ ap (λ (x : List Child). numbers ++ sibling_numbers number (built tree x)) (sym none) ∙ is.parts
-
 pub dropped_more : {B : Type 0} (of : B → List ℕ) (files : List (File B)) (k : ℕ) (file : File B) → k < length files → file ≡ get_or files k file → drop k (map (child_of of) files) ≡ child_of of file ∷ drop (k + 1) (map (child_of of) files)
 dropped_more of files k file lt at =
     drop_more (map (child_of of) files) k (child_of of file) (omega (arith, lt, length-map files (child_of of)))
@@ -79,27 +76,6 @@ pub room_here : (tree : ℕ → FileTree) (first : ℕ) (cs : List Child) (k num
 room_here tree first cs k number most numbers c is at few = omega (arith, is.room, few, ap (λ (x : List Child). entries_in (built tree x)) at, room_then tree c (drop (k + 1) cs))
 
 -- ---- entries placed
-
--- what is placed of some children, and what is left
-pub record Placing (tree : ℕ → FileTree) (cs : List Child) (k : ℕ) (now old : List Slot) (m n : ℕ) (links all : List (ℕ × ℕ)) (Valid : Type 0) : Type 0 where
-  pub valid : Valid
-  pub slots : now ++ slots_from (m + 1) (drop k links) (built tree (drop k cs)) ≡ old ++ slots_from (n + 1) all (built tree cs)
-  pub room : m + entries_in (built tree (drop k cs)) ≡ n + entries_in (built tree cs)
-
-pub placed_step : (tree : ℕ → FileTree) (old new all : List Slot) (n m : ℕ) (l : ℕ × ℕ) (ls links : List (ℕ × ℕ)) (c : Child) (cs left : List Child) → new ≡ old ++ slots_from (n + 1) (l ∷ []) (built tree (c ∷ [])) → old ++ slots_from (n + 1) links (built tree left) ≡ all → links ≡ l ∷ ls → left ≡ c ∷ cs → m ≡ n + entries_in (built tree (c ∷ [])) → new ++ slots_from (m + 1) ls (built tree cs) ≡ all
-placed_step tree old new all n m l ls links c cs left one is e f g =
-    let first = slots_from (n + 1) (l ∷ []) (built tree (c ∷ [])) in
-    let number : m + 1 ≡ n + 1 + entries_in (built tree (c ∷ [])) = omega (arith, g) in
-    ap (λ (x : List Slot). x ++ slots_from (m + 1) ls (built tree cs)) one
-    ∙ append_assoc old first (slots_from (m + 1) ls (built tree cs))
-    ∙ ap (λ (k : ℕ). old ++ (first ++ slots_from k ls (built tree cs))) number
-    ∙ ap (λ (x : List Slot). old ++ x) (sym (slots_then tree (n + 1) l ls c cs))
-    ∙ ap (λ (x : List (ℕ × ℕ)). old ++ slots_from (n + 1) x (built tree (c ∷ cs))) (sym e)
-    ∙ ap (λ (x : List Child). old ++ slots_from (n + 1) links (built tree x)) (sym f)
-    ∙ is
-
-pub counted_step : (old new : List Slot) (n : ℕ) (ls : List (ℕ × ℕ)) (t : FileTree) → new ≡ old ++ slots_from n ls t → length new ≡ length old + entries_in t
-counted_step old new n ls t e = ap length e ∙ length-append old (slots_from n ls t) ∙ ap (λ (k : ℕ). length old + k) (slots_count n ls t)
 
 pub left_more : (cs : List Child) (k : ℕ) (d : Child) → k < length cs → drop k cs ≡ get_or cs k d ∷ drop (k + 1) cs
 left_more cs k d lt = drop_more cs k d lt

@@ -5,10 +5,9 @@ use Rattle.std.specs.Char.{to_ascii_uppercase}
 use Rattle.std.specs.Cmp.{IsTotalOrder, IsStrictWeakOrder}
 use Rattle.std.specs.Cmp.Lexicographic.{slice_cmp}
 use Rattle.std.specs.List.Sorted.{IsSortedBy, IsStableBy}
-use Rattle.std.specs.Ordering.{is_lt, nat_cmp, ordering_then}
+use Rattle.std.specs.Ordering.{is_lt, nat_cmp}
 use Rattle.std.specs.declared.cmp.Ordering.{Ordering}
-use Rattle.std.specs.declared.cmp.Ordering.TheVariants.{Less, Equal, Greater}
-use Rattle.std.proofs.lemmas.Cmp.{nat_cmp_total, nat_list_cmp_total, on_total, then_total, tied_itself}
+use Rattle.std.proofs.lemmas.Cmp.{nat_cmp_total, nat_list_cmp_total, on_total, then_total}
 use Rattle.std.proofs.lemmas.List.Sorted.{ranks_by}
 use Rattle.carrier_model.specs.FileTrees.{sibling_cmp}
 use Rattle.cfb_writer.specs.Contents.{child_named, child_of}
@@ -46,17 +45,6 @@ module _ {X : Type 0} (f : X → X) where
   next_done (y ∷ ys) (suc k) x d lt e = rw (add-one (suc k)) (ap (λ (zs : List X). f y ∷ zs) (next_done ys k x d (omega (arith, lt)) e ∙ ap (λ (n : ℕ). map f (take n ys) ++ drop n ys) (add-one k)))
 
 -- ---- the order of two names
-
-pub by_length : (one other : List ℕ) (order : Ordering) → (length one ≡ length other → ⊥) → order ≡ nat_cmp (length one) (length other) → order ≡ sibling_cmp one other
-by_length one other order apart e = e ∙ by (nat_cmp (length one) (length other)) refl
-  where
-    by : (o : Ordering) → nat_cmp (length one) (length other) ≡ o → nat_cmp (length one) (length other) ≡ sibling_cmp one other
-    by Less h = rw h refl
-    by Equal h = absurd (apart (grind arith))
-    by Greater h = rw h refl
-
-pub by_units : (one other : List ℕ) → length one ≡ length other → sibling_cmp one other ≡ slice_cmp nat_cmp (map to_ascii_uppercase one) (map to_ascii_uppercase other)
-by_units one other e = ap (λ (o : Ordering). ordering_then o (slice_cmp nat_cmp (map to_ascii_uppercase one) (map to_ascii_uppercase other))) (ap (nat_cmp (length one)) (sym e) ∙ tied_itself nat_cmp_total (length one))
 
 -- what is left to compare from a place on
 abbrev pub order_from : List ℕ → List ℕ → ℕ → Ordering

@@ -1,5 +1,5 @@
 -- Calls that append and add up, one after the other.
-use Rattle.std.proofs.Common.{◌≡◌, ℕ, zero, suc, ◌+◌, ◌%◌, ◌<◌, ◌++◌, List, [], ◌∷◌, take, drop, get_or, Option, Result, Ok, Err, inl, inr, refl, sym, ap, subst, ◌∙◌, append_assoc, add-one, arith}
+use Rattle.std.proofs.Common.{◌≡◌, ℕ, zero, suc, ◌+◌, ◌%◌, ◌<◌, ◌++◌, List, [], ◌∷◌, take, drop, get_or, Option, Result, Ok, Err, inl, inr, refl, sym, ap, subst, ◌∙◌, append_assoc, arith}
 use Rattle.std.specs.Prelude.{slice_get, Some, sum, fold}
 use Rattle.std.specs.Result.{IsErr}
 use Rattle.std.specs.List.{flat_map}
@@ -61,14 +61,6 @@ flat_map_more f xs k x at =
 pub flat_map_parts : {X : Type 0} (f : X → List ℕ) (xs : List X) (k : ℕ) (x : X) → slice_get xs k ≡ Some x → flat_map f xs ≡ flat_map f (take k xs) ++ (f x ++ flat_map f (drop (k + 1) xs))
 flat_map_parts f xs k x at = subst (λ (z : List ℕ). flat_map f xs ≡ flat_map f (take k xs) ++ (z ++ flat_map f (drop (k + 1) xs))) (ap f (get_or_from_slice_get xs k x x at)) (flat_map-at f xs k x (slice_get_within xs k x at))
 
--- one item more
-pub loop_more : {X E F G : Type 0} {a b c : Option (List ℕ)} {n m l s t : ℕ} (f : X → List ℕ) (xs : List X) (k : ℕ) (x : X) (r : ℕ) → slice_get xs k ≡ Some x → r ≡ (s + t) % 65536 → Sums {E = E} a b n m (Ok s) (flat_map f (take k xs)) → Sums {E = F} b c m l (Ok t) (f x) → Sums {E = G} a c n l (Ok r) (flat_map f (take (k + 1) xs))
-loop_more {X} {E} {F} {G} f xs k x r at e p q = rw (flat_map_more f xs k x at) (sums_both r e p q)
-
--- the exit of an item that failed
-pub loop_stops : {X E F G : Type 0} {a b c : Option (List ℕ)} {n m l s : ℕ} {r : Result ℕ G} {e : F} (f : X → List ℕ) (xs : List X) (k : ℕ) (x : X) → slice_get xs k ≡ Some x → IsErr r → Sums {E = E} a b n m (Ok s) (flat_map f (take k xs)) → Sums {E = F} b c m l (Err e) (f x) → Sums {E = G} a c n l r (flat_map f xs)
-loop_stops {X} {E} {F} {G} {a} {b} {c} {n} {m} {l} {s} {r} {e} f xs k x at err p q = rw (flat_map_parts f xs k x at) (sums_second err p (sums_first {r = Err e} (flat_map f (drop (k + 1) xs)) refl q))
-
 -- ---- a piece by itself
 
 pub sums_written : {E F : Type 0} {a b : Option (List ℕ)} {n m s : ℕ} {x : List ℕ} → Writes {E = E} a b n m (Ok tt) x → s ≡ sum16 x → Sums {E = F} a b n m (Ok s) x
@@ -79,9 +71,6 @@ sums_unwritten {r = Ok u} err w = absurd cc
 sums_unwritten {F = F} {a = a} {b = b} {n = n} {m = m} {r = Err f} {x = x} err w = record { writes = subst (λ (z : List ℕ). Writes {E = F} a b n m (Err f) z) (append-nil x) (failing {r = Err f} [] refl w); sum = tt }
 
 -- ---- the pieces of a blob
-
-pub pieces_more : {E F G : Type 0} {a b c : Option (List ℕ)} {n m l s t : ℕ} (part : ℕ → List ℕ) (k r : ℕ) → r ≡ (s + t) % 65536 → Sums {E = E} a b n m (Ok s) (joined part k) → Sums {E = F} b c m l (Ok t) (part k) → Sums {E = G} a c n l (Ok r) (joined part (k + 1))
-pieces_more {E} {F} {G} part k r e p q = rw (add-one k) (sums_both r e p q)
 
 joined_parts : (part : ℕ → List ℕ) (k count : ℕ) → k < count → (z : List ℕ) × (joined part count ≡ joined part k ++ (part k ++ z))
 joined_parts part k zero lt = absurd (omega (arith, lt))

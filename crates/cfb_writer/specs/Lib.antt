@@ -2,6 +2,7 @@ pub mod Contents
 pub mod Entered
 pub mod Grown
 pub mod Laid
+pub mod Levels
 pub mod Listed
 pub mod Measures
 pub mod Numbered

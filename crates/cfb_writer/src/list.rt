@@ -114,7 +114,7 @@ impl<'t, B: Blob> FileList<'t, B> {
         ensures ok { OnOk result (self.new ≡ record self.old { storages = listed.with_child self.old.storages parent (child_of B.bytes file.entry) }) }
         ensures err { OnErr result (self.new ≡ self.old) }
     {
-        self.storages[parent].files.push(file)?;
+        push_file(&mut self.storages[parent].files, file)?;
         Ok(())
     }
 
@@ -208,6 +208,18 @@ impl<'t, B: Blob> FileList<'t, B> {
         let units = units_of(self.alloc, name)?;
         self.add_named_storage(parent, &units, [0; 16])
     }
+}
+
+/// Puts a file behind others. Room doubles from one file on, so that a storage with few takes little.
+fn push_file<'t, B: Blob>(files: &mut Vec<File<'t, B>>, file: File<'t, B>) -> Result<(), NoMemory>
+    ensures ok { OnOk result (files.new.items ≡ files.old.items ++ file.entry ∷ []) }
+    ensures err { OnErr result (files.new.items ≡ files.old.items) }
+{
+    if files.len() == files.capacity() {
+        files.reserve_exact(files.len().max(1))?;
+    }
+    files.push(file)?;
+    Ok(())
 }
 
 /// The units of a text of ASCII characters.

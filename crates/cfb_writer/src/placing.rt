@@ -1,9 +1,11 @@
 //! Entries in the order of their numbers: a storage stands before what is in it.
-ghost use Rattle.std.specs.Prelude.{◌≡◌, ◌<◌, ◌≤◌, ◌+◌, ◌++◌, ◌∷◌, [], ℕ, List, length, vec_len, All, IfOk, OnOk};
+ghost use Rattle.std.specs.Prelude.{◌≡◌, ◌<◌, ◌≤◌, ◌+◌, ◌*◌, ◌++◌, ◌∷◌, [], ℕ, List, length, vec_len, All, IfOk, OnOk, option_to_list};
+ghost use Rattle.std.specs.List.{AllByRecursion};
 ghost use Rattle.carrier_model.specs.FileTrees.{FileTree, entries_in};
 ghost use Rattle.carrier_model.specs.Layout as layout;
 ghost use Rattle.carrier_model.specs.Totals.{capped};
 ghost use Rattle.cfb_writer.specs.Contents.{child_named};
+ghost use Rattle.cfb_writer.specs.Levels as levels;
 ghost use Rattle.cfb_writer.specs.Listed as listed;
 ghost use Rattle.cfb_writer.specs.Placed as placed;
 ghost use Rattle.cfb_writer.specs.Trees.{inside};
@@ -59,8 +61,42 @@ pub fn sibling_numbers<B: Blob>(
     Ok(numbers)
 }
 
-/// Appends the entry of a file, and those of what is in it.
-#[cycle(placing)]
+/// The files of a storage whose entries are still to be placed, from one of them on: the number at the top of all its
+/// files, and the links of each.
+#[derive(Drop)]
+pub struct Level {
+    pub storage: usize,
+    pub file: usize,
+    pub top: u32,
+    pub links: Vec<(u32, u32)>,
+}
+
+/// All files of a storage, where the first has this number.
+pub fn level_of<B: Blob>(
+    alloc: Global,
+    list: &FileList<'_, B>,
+    totals: &[Totals],
+    storage: usize,
+    first: u32,
+) -> Result<Level, NoMemory>
+    requires storage { storage < length list.now.storages }
+    requires many { length totals.now ≡ length list.now.storages }
+    requires counted { placed.AreCounted (inside list.now.storages) 0 totals.now }
+    requires few { first + entries_in (inside list.now.storages storage) ≤ 2147483648 }
+    ensures { IfOk result (levels.IsWhole list.now.storages storage first) }
+{
+    let numbers = sibling_numbers(alloc, list, totals, storage, first)?;
+    let mut links = Vec::with_capacity(alloc, list.files_in(storage).len())?;
+    append_links(&mut links, &numbers)?;
+    Ok(Level {
+        storage,
+        file: 0,
+        top: top_of(&numbers),
+        links,
+    })
+}
+
+/// Appends the entry of a file. What is in it, if it is a storage, is then to be placed.
 fn append_file<B: Blob>(
     alloc: Global,
     list: &FileList<'_, B>,
@@ -69,7 +105,7 @@ fn append_file<B: Blob>(
     storage: usize,
     file: usize,
     links: (u32, u32),
-) -> Result<(), NoMemory>
+) -> Result<Option<Level>, NoMemory>
     requires storage { storage < length list.now.storages }
     requires file { file < length (listed.children_at list.now.storages storage) }
     requires many { length totals.now ≡ length list.now.storages }
@@ -77,7 +113,10 @@ fn append_file<B: Blob>(
     requires valid { All (placed.IsPlace list.now.storages) places.old.items }
     requires few { vec_len places.old + 1 + entries_in (listed.built (inside list.now.storages) (placed.child_at list.now.storages storage file ∷ [])) ≤ 2147483648 }
     ensures valid { OnOk result (All (placed.IsPlace list.now.storages) places.new.items) }
-    ensures slots { OnOk result (placed.slots_at list.now.storages places.new.items ≡ placed.slots_at list.now.storages places.old.items ++ layout.slots_from (vec_len places.old + 1) (links ∷ []) (listed.built (inside list.now.storages) (placed.child_at list.now.storages storage file ∷ []))) }
+    ensures level { IfOk result (λ inner. AllByRecursion (levels.IsLevel list.now.storages) (option_to_list inner)) }
+    ensures count { OnOk result (vec_len places.new ≡ vec_len places.old + 1) }
+    ensures room { IfOk result (λ inner. 1 + levels.entries_left list.now.storages (option_to_list inner) ≡ entries_in (listed.built (inside list.now.storages) (placed.child_at list.now.storages storage file ∷ []))) }
+    ensures slots { IfOk result (λ inner. placed.slots_at list.now.storages places.new.items ++ levels.slots_left list.now.storages (vec_len places.old + 2) (option_to_list inner) ≡ placed.slots_at list.now.storages places.old.items ++ layout.slots_from (vec_len places.old + 1) (links ∷ []) (listed.built (inside list.now.storages) (placed.child_at list.now.storages storage file ∷ []))) }
 {
     let (left, right) = links;
     let mut place = Place {
@@ -90,41 +129,80 @@ fn append_file<B: Blob>(
     match &list.files_in(storage)[file].kind {
         Kind::Stream(_) => {
             places.push(place)?;
-            Ok(())
+            Ok(None)
         }
         Kind::Storage { number, .. } => {
             let first = places.len() as u32 + 2;
-            let numbers = sibling_numbers(alloc, list, totals, *number, first)?;
-            place.child = top_of(&numbers);
+            let inner = level_of(alloc, list, totals, *number, first)?;
+            place.child = inner.top;
             places.push(place)?;
-            append_family(alloc, list, totals, places, *number, &numbers)
+            Ok(Some(inner))
         }
     }
 }
 
-/// Appends the entries of what is in a storage, which has these numbers.
-#[cycle(placing)]
-pub fn append_family<B: Blob>(
+/// Appends the entry of the next file of a level, if it has one, and puts back what is left.
+fn append_next<B: Blob>(
     alloc: Global,
     list: &FileList<'_, B>,
     totals: &[Totals],
     places: &mut Vec<Place>,
-    storage: usize,
-    numbers: &[u32],
+    stack: &mut Vec<Level>,
+    level: Level,
 ) -> Result<(), NoMemory>
-    requires storage { storage < length list.now.storages }
     requires many { length totals.now ≡ length list.now.storages }
     requires counted { placed.AreCounted (inside list.now.storages) 0 totals.now }
     requires valid { All (placed.IsPlace list.now.storages) places.old.items }
-    requires few { vec_len places.old + 1 + entries_in (inside list.now.storages storage) ≤ 2147483648 }
-    requires numbers { numbers.now ≡ layout.sibling_numbers (vec_len places.old + 1) (inside list.now.storages storage) }
-    ensures valid { OnOk result (All (placed.IsPlace list.now.storages) places.new.items) }
-    ensures slots { OnOk result (placed.slots_at list.now.storages places.new.items ≡ placed.slots_at list.now.storages places.old.items ++ layout.slots_from (vec_len places.old + 1) (layout.links_of_siblings numbers.now) (inside list.now.storages storage)) }
+    requires level { AllByRecursion (levels.IsLevel list.now.storages) (stack.old.items ++ level ∷ []) }
+    requires few { vec_len places.old + 1 + levels.entries_left list.now.storages (stack.old.items ++ level ∷ []) ≤ 2147483648 }
+    ensures proceeds { OnOk result (levels.Proceeds list.now.storages places.old.items places.new.items (stack.old.items ++ level ∷ []) stack.new.items) }
+    ensures fewer { OnOk result (2 * levels.entries_left list.now.storages stack.new.items + length stack.new.items ≤ 2 * levels.entries_left list.now.storages (stack.old.items ++ level ∷ []) + length stack.old.items) }
 {
-    let mut links = Vec::new(alloc);
-    append_links(&mut links, numbers)?;
-    for file in 0..list.files_in(storage).len() {
-        append_file(alloc, list, totals, places, storage, file, links[file])?;
+    let Level {
+        storage,
+        file,
+        top,
+        links,
+    } = level;
+    if file >= list.files_in(storage).len() {
+        return Ok(());
+    }
+    let inner = append_file(alloc, list, totals, places, storage, file, links[file])?;
+    stack.push(Level {
+        storage,
+        file: file + 1,
+        top,
+        links,
+    })?;
+    match inner {
+        Some(inner) => {
+            stack.push(inner)?;
+            Ok(())
+        }
+        None => Ok(()),
+    }
+}
+
+/// Appends the entries of a level, each followed by those of what is in it.
+pub fn append_level<B: Blob>(
+    alloc: Global,
+    list: &FileList<'_, B>,
+    totals: &[Totals],
+    places: &mut Vec<Place>,
+    level: Level,
+) -> Result<(), NoMemory>
+    requires many { length totals.now ≡ length list.now.storages }
+    requires counted { placed.AreCounted (inside list.now.storages) 0 totals.now }
+    requires valid { All (placed.IsPlace list.now.storages) places.old.items }
+    requires level { levels.IsLevel list.now.storages level }
+    requires few { vec_len places.old + 1 + levels.entries_left list.now.storages (level ∷ []) ≤ 2147483648 }
+    ensures valid { OnOk result (All (placed.IsPlace list.now.storages) places.new.items) }
+    ensures slots { OnOk result (placed.slots_at list.now.storages places.new.items ≡ placed.slots_at list.now.storages places.old.items ++ levels.slots_left list.now.storages (vec_len places.old + 1) (level ∷ [])) }
+{
+    let mut stack = Vec::new(alloc);
+    stack.push(level)?;
+    while let Some(level) = stack.pop() {
+        append_next(alloc, list, totals, places, &mut stack, level)?;
     }
     Ok(())
 }

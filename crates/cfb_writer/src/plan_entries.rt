@@ -7,9 +7,8 @@ ghost use Rattle.cfb_writer.specs.Planned.{laid_of};
 ghost use Rattle.cfb_writer.specs.Trees.{inside};
 
 use crate::entries::Entries;
-use crate::links::top_of;
 use crate::list::FileList;
-use crate::placing::{append_family, sibling_numbers};
+use crate::placing::{append_level, level_of};
 use crate::totals::Totals;
 use carrier_io::{Blob, NoMemory};
 use std::alloc::Global;
@@ -25,8 +24,9 @@ pub fn entries_of<'t, B: Blob>(
     requires few { 1 + entries_in (tree_of list.storages) ≤ 2147483648 }
     ensures { IfOk result (λ entries. entries ≡ laid_of list.entry.root_class (tree_of list.entry.storages)) }
 {
-    let mut places = Vec::new(alloc);
-    let numbers = sibling_numbers(alloc, &list, totals, 0, 1)?;
-    append_family(alloc, &list, totals, &mut places, 0, &numbers)?;
-    Ok(Entries::new(list, top_of(&numbers), places))
+    let level = level_of(alloc, &list, totals, 0, 1)?;
+    let top = level.top;
+    let mut places = Vec::with_capacity(alloc, totals[0].entries as usize)?;
+    append_level(alloc, &list, totals, &mut places, level)?;
+    Ok(Entries::new(list, top, places))
 }

@@ -1,4 +1,4 @@
-use Rattle.std.proofs.Common.{◌≡◌, ℕ, ◌+◌, ◌≤◌, ◌<◌, List, filter, vec_len, length}
+use Rattle.std.proofs.Common.{◌≡◌, ℕ, ◌+◌, ◌≤◌, ◌<◌, List, filter, vec_len}
 use Rattle.std.specs.List.{range_with_len, All}
 use Rattle.carrier_model.specs.Marks.{Marks, unmarked}
 use Rattle.cfb_sectors.specs.States.{entries}

@@ -1,4 +1,4 @@
-use Rattle.std.proofs.Common.{◌≡◌, take, get_or, ◌++◌, ◌∷◌, [], sym, ◌∙◌, ap, subst, None, Some, cond, nat_eq}
+use Rattle.std.proofs.Common.{◌≡◌, take, get_or, sym, ◌∙◌, ap, subst, None, Some, cond, nat_eq}
 use Rattle.std.specs.Prelude.{IsSome}
 use Rattle.std.proofs.lemmas.List.{map_more}
 use Rattle.std.specs.Cmp.Lexicographic.{pointwise}

@@ -21,5 +21,5 @@ returns-clause-inside c =
     let q = c.units.result.now in
     let key = key_of (directory_of f.sectors) in
     let inside : at < length f.families.items = omega (arith, f.families.ok.0, c.requires) in
-    let is : c.get.result ≡ first_named key q (family_at f.families.items at) = c.get.ensures ∙ (sym (index_is f.families.items at c.index.result.now q inside c.index.ensures) ∙ f.named at q c.requires) in
+    let is : c.named.result ≡ first_named key q (family_at f.families.items at) = c.named.ensures ∙ (sym (index_is f.families.items at c.index.result.now q inside c.index.ensures) ∙ f.named at q c.requires) in
     subst (λ r. IfSome r (λ id. id < vec_len f.families)) (sym is) (first_inside key (vec_len f.families) q (family_at f.families.items at) (f.inside at))

@@ -2,7 +2,7 @@ use Rattle.std.proofs.Common.{sym, ◌∙◌, ◌+◌, ap, None, Some}
 use Rattle.std.specs.Option.{option_map}
 use Rattle.std.proofs.lemmas.Bool.{cond-true, cond-false}
 use Rattle.carrier_model.specs.Links.{is_storage}
-use Rattle.carrier_model.specs.Lookups.{Found, size_place}
+use Rattle.carrier_model.specs.Lookups.{size_place}
 use Rattle.cfb_directory.specs.Shown.{table_in}
 use Rattle.cfb_directory.proofs.LookupLaws.{stream_at_name, storage_kind, stream_kind}
 use Rattle.cfb_directory.proofs.files.Files.size_offset.Goals as goal

@@ -1,4 +1,4 @@
-use Rattle.std.proofs.Common.{◌≡◌, ◌∙◌}
+use Rattle.std.proofs.Common.{◌∙◌}
 use Rattle.cfb_directory.proofs.SpelledLaws.{names_more}
 use Rattle.cfb_directory.proofs.spelled.Names.push.Goals as goal
 
