@@ -7,13 +7,8 @@ use Rattle.std.proofs.lemmas.Bool.{cases_Bool, cases_eq, ne_eqb}
 use Rattle.carrier_model.specs.Trail.{Fault}
 use Rattle.carrier_model.specs.Outcomes.{◌>>=◌, mapped}
 use Rattle.carrier_model.specs.Chains.{member}
-<<<<<<< /work/main/crates/cfb_directory/proofs/OpenLaws.antt
-use Rattle.carrier_model.specs.Entries.{Entry, entry_at}
-use Rattle.carrier_model.specs.Files.{Files, none, Opened, Claim, directory_in, first_link, all_families, names_of, stream_ids, claims_of, chain_in, tree_of, files_of, opened_of, open_of, open_file, folded, name_of}
-=======
 use Rattle.carrier_model.specs.Entries.{entry_at}
-use Rattle.carrier_model.specs.Files.{Files, none, Opened, Claim, directory_in, first_link, all_families, names_of, stream_ids, claims_of, chain_in, tree_of, files_of, opened_of, open_of, open_file}
->>>>>>> /tmp/tmp89zyb29f/n
+use Rattle.carrier_model.specs.Files.{Files, none, Opened, Claim, directory_in, first_link, all_families, names_of, stream_ids, claims_of, chain_in, tree_of, files_of, opened_of, open_of, open_file, folded, name_of}
 use Rattle.carrier_model.specs.Links.{Directory, Links, leaf, node, ids, Linked, links_of, below_depth, below_link}
 use Rattle.carrier_model.specs.Loads.{Loaded, load_of, taken_by, stream_of}
 use Rattle.carrier_model.specs.Marks.{Marks}
@@ -24,14 +19,6 @@ use Rattle.carrier_io.specs.declared.reasons.Stop.TheVariants as stops
 use Rattle.carrier_io.specs.Reads.{Fails}
 use Rattle.cfb_sectors.specs.States.{State, entries, entry_of, place_of}
 use Rattle.cfb_directory.specs.Nodes.{AreStreams, is_wanted, claims_in}
-<<<<<<< /work/main/crates/cfb_directory/proofs/OpenLaws.antt
-use Rattle.std.specs.List.{All}
-use Rattle.std.specs.Cmp.Lexicographic.{pointwise}
-use Rattle.std.proofs.lemmas.List.Elements.{All-head, All-tail}
-use Rattle.std.proofs.Common.{Some}
-=======
-use Rattle.carrier_model.specs.Files.{folded, name_of}
->>>>>>> /tmp/tmp89zyb29f/n
 use Rattle.carrier_io.specs.Steps.{stepped}
 use Rattle.cfb_directory.specs.Families.{family_at}
 use Rattle.cfb_directory.specs.Named.{key_of, are_apart}

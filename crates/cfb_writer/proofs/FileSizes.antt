@@ -4,7 +4,7 @@ use Rattle.std.specs.Prelude.{Err, Ok}
 use Rattle.std.specs.List.{AllByRecursion}
 use Rattle.carrier_model.specs.Bytes.{MOST_BYTES}
 use Rattle.carrier_model.specs.FileTrees as trees
-use Rattle.carrier_model.specs.FileTrees.{FileTree, entries_in, NO_CLASS}
+use Rattle.carrier_model.specs.FileTrees.{FileTree, entries_in, sorted, NO_CLASS}
 use Rattle.carrier_model.specs.Layout.{Plan, Slot, file_bytes, links_of_siblings, plan_of, sibling_numbers, slots_from}
 use Rattle.carrier_io.specs.declared.failures.PlanEnd.TheVariants.{TooLarge}
 use Rattle.carrier_model.specs.Totals.{capped}
@@ -12,22 +12,20 @@ use Rattle.cfb_writer.specs.PlanEnds.{IsEndOf}
 use Rattle.std.proofs.lemmas.Bool.Decides.{nat_tests}
 use Rattle.carrier_model.proofs.LaidParts.{IsFit, IsPlan, parts_lie}
 use Rattle.carrier_model.proofs.Sizes.{SizeOf, version3, version4}
-use Rattle.cfb_writer.specs.Grown.{MayBeAdded}
+use Rattle.cfb_list.specs.Grown.{MayBeAdded}
 use Rattle.cfb_writer.specs.Laid.{Laid, IsShort, slots_in}
-use Rattle.cfb_writer.specs.Listed.{Child, stream, storage, built, tree_at, trees_from, tree_of, IsChild, AreSound, IsSound}
+use Rattle.cfb_list.specs.Listed.{Child, stream, storage, built, tree_at, trees_from, tree_of, IsChild, AreSound, IsSound}
 use Rattle.cfb_writer.specs.Measures.{IsMeasure, sectors_in}
 use Rattle.cfb_writer.specs.Numbered.{plan_seen}
 use Rattle.cfb_writer.specs.PlanKept.{IsPlanned}
 use Rattle.cfb_writer.specs.Planned.{laid_of, layout_of, planned}
 use Rattle.cfb_writer.specs.Shares.{share_pieces, share_total}
-use Rattle.cfb_writer.specs.Sorting.{siblings_in_order}
-use Rattle.cfb_writer.specs.Trees.{long_in, mini_in}
+use Rattle.cfb_list.specs.Trees.{long_in, mini_in}
 use Rattle.cfb_writer.specs.Versions.{sector_of}
 use Rattle.cfb_writer.specs.declared.parts.Measure.{Measure}
 use Rattle.cfb_writer.specs.declared.streams.Share.TheVariants.{Short, Long}
 use Rattle.cfb_writer.specs.declared.version.Version.{Version}
 use Rattle.cfb_writer.specs.declared.version.Version.TheVariants.{Three, Four}
-use Rattle.cfb_writer.proofs.BuiltTrees.{tree_sorted}
 use Rattle.cfb_writer.proofs.PlanSizes.{plan_is, mini_total, long_total}
 use Rattle.cfb_writer.proofs.Shared.{total_then}
 use Rattle.cfb_writer.proofs.Tables.{enough}
@@ -92,9 +90,9 @@ size_is v class files h fits =
     (parts_lie (sector_of v) (sized v) (plan_of (sector_of v) slots) slots (laid_fits v class files h fits)).size
     ∙ ap (λ (p : Plan). sector_of v * sectors_in p) (plan_is (sector_of v) class files)
 
-pub layout_size : (v : Version) (class : List ℕ) (storages : List (List Child)) (files : FileTree) → tree_of (map siblings_in_order storages) ≡ files → length class ≡ 16 → MayBeAdded files → length (layout_of (sector_of v) class (tree_of storages)) ≡ sector_of v * sectors_in (planned (sector_of v) (entries_in files) (mini_in files) (long_in (sector_of v) files))
+pub layout_size : (v : Version) (class : List ℕ) (storages : List (List Child)) (files : FileTree) → files ≡ sorted (tree_of storages) → length class ≡ 16 → MayBeAdded files → length (layout_of (sector_of v) class (tree_of storages)) ≡ sector_of v * sectors_in (planned (sector_of v) (entries_in files) (mini_in files) (long_in (sector_of v) files))
 layout_size v class storages files e h fits =
-    ap (λ (t : FileTree). length (file_bytes (sector_of v) (plan_of (sector_of v) (slots_in (laid_of class t))) (slots_in (laid_of class t)))) (sym (tree_sorted storages) ∙ e)
+    ap (λ (t : FileTree). length (file_bytes (sector_of v) (plan_of (sector_of v) (slots_in (laid_of class t))) (slots_in (laid_of class t)))) (sym e)
     ∙ size_is v class files h fits
 
 -- ---- streams are short
@@ -131,7 +129,7 @@ slots_short v ls files fits few =
 
 -- ---- a plan, or its end
 
-pub end_of : (v : Version) (class : List ℕ) (storages : List (List Child)) (files : FileTree) (n : ℕ) → tree_of (map siblings_in_order storages) ≡ files → length class ≡ 16 → MayBeAdded files → IsMeasure (sector_of v) (planned (sector_of v) (entries_in files) (mini_in files) (long_in (sector_of v) files)) (Err n) → IsEndOf (layout_of (sector_of v) class (tree_of storages)) (TooLarge n)
+pub end_of : (v : Version) (class : List ℕ) (storages : List (List Child)) (files : FileTree) (n : ℕ) → files ≡ sorted (tree_of storages) → length class ≡ 16 → MayBeAdded files → IsMeasure (sector_of v) (planned (sector_of v) (entries_in files) (mini_in files) (long_in (sector_of v) files)) (Err n) → IsEndOf (layout_of (sector_of v) class (tree_of storages)) (TooLarge n)
 end_of v class storages files n e h fits end =
     let size = layout_size v class storages files e h fits in
     (subst (λ (k : ℕ). MOST_BYTES < k) (sym size) end.0, end.1 ∙ ap capped (sym size))
@@ -151,9 +149,9 @@ plan_of_files v class files laid m e h fits is =
       whole = whole;
     })
 
-pub file_is : (v : Version) (class : List ℕ) (storages : List (List Child)) (files : FileTree) (laid : Laid) (p : Plan) → tree_of (map siblings_in_order storages) ≡ files → laid ≡ laid_of class files → p ≡ planned (sector_of v) (entries_in files) (mini_in files) (long_in (sector_of v) files) → file_bytes (sector_of v) p (slots_in laid) ≡ layout_of (sector_of v) class (tree_of storages)
+pub file_is : (v : Version) (class : List ℕ) (storages : List (List Child)) (files : FileTree) (laid : Laid) (p : Plan) → files ≡ sorted (tree_of storages) → laid ≡ laid_of class files → p ≡ planned (sector_of v) (entries_in files) (mini_in files) (long_in (sector_of v) files) → file_bytes (sector_of v) p (slots_in laid) ≡ layout_of (sector_of v) class (tree_of storages)
 file_is v class storages files laid p e l is =
     let z = sector_of v in
     ap (λ (x : Laid). file_bytes z p (slots_in x)) l
     ∙ ap (λ (q : Plan). file_bytes z q (slots_in (laid_of class files))) (is ∙ sym (plan_is z class files))
-    ∙ ap (λ (t : FileTree). file_bytes z (plan_of z (slots_in (laid_of class t))) (slots_in (laid_of class t))) (sym e ∙ tree_sorted storages)
+    ∙ ap (λ (t : FileTree). file_bytes z (plan_of z (slots_in (laid_of class t))) (slots_in (laid_of class t))) e

@@ -5,13 +5,13 @@ use Rattle.std.specs.List.{AllByRecursion}
 use Rattle.std.proofs.lemmas.List.{append-nil, drop_more, drop_all, get_or-map, length-append, map-append}
 use Rattle.carrier_model.specs.FileTrees.{entries_in}
 use Rattle.carrier_model.specs.Layout.{Slot, slots_from, links_of_siblings, sibling_numbers, top_of}
-use Rattle.cfb_writer.specs.Contents.{child_named, child_of}
+use Rattle.cfb_list.specs.Contents.{child_named, child_of}
 use Rattle.cfb_writer.specs.Levels.{IsLevel, IsWhole, Proceeds, entries_left, files_left, slots_left}
-use Rattle.cfb_writer.specs.Listed.{Child, stream, storage, built, children_at}
+use Rattle.cfb_list.specs.Listed.{Child, stream, storage, built, children_at}
 use Rattle.cfb_writer.specs.Placed.{slot_of, slot_at, slots_at, child_at, IsPlace}
-use Rattle.cfb_writer.specs.Trees.{inside}
-use Rattle.cfb_writer.specs.declared.content.File.{File}
-use Rattle.cfb_writer.specs.declared.content.Kind.{Kind}
+use Rattle.cfb_list.specs.Trees.{inside}
+use Rattle.cfb_list.specs.declared.content.File.{File}
+use Rattle.cfb_list.specs.declared.content.Kind.{Kind}
 use Rattle.cfb_writer.specs.declared.placing.Level.{Level}
 use Rattle.cfb_writer.specs.declared.placing.Place.{Place}
 use Rattle.cfb_writer.proofs.Numbered.{left_more, room_then, slots_then}

@@ -1,9 +1,5 @@
-pub mod Added
-pub mod BuiltTrees
-pub mod Divided
 pub mod FileSizes
 pub mod Going
-mod Grown
 pub mod HeaderList
 pub mod Least
 pub mod Levels
@@ -14,9 +10,6 @@ pub mod Rooms
 pub mod RunWords
 pub mod Shared
 pub mod Sides
-pub mod SortedFiles
-pub mod Soundness
-pub mod Stable
 pub mod Summed
 pub mod Tables
 pub mod Joins

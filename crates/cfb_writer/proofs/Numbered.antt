@@ -4,9 +4,9 @@ use Rattle.std.proofs.lemmas.List.{drop_more, length-append, length-map, get_or-
 use Rattle.carrier_model.specs.FileTrees as trees
 use Rattle.carrier_model.specs.FileTrees.{FileTree, entries_in}
 use Rattle.carrier_model.specs.Layout.{Slot, sibling_numbers, slots_from, middle, top_of, side_links, links_of_siblings}
-use Rattle.cfb_writer.specs.Contents.{child_of}
-use Rattle.cfb_writer.specs.Listed.{Child, stream, storage, built}
-use Rattle.cfb_writer.specs.declared.content.File.{File}
+use Rattle.cfb_list.specs.Contents.{child_of}
+use Rattle.cfb_list.specs.Listed.{Child, stream, storage, built}
+use Rattle.cfb_list.specs.declared.content.File.{File}
 
 -- one sibling, and those behind it
 pub numbers_then : (tree : ℕ → FileTree) (n : ℕ) (c : Child) (cs : List Child) → sibling_numbers n (built tree (c ∷ cs)) ≡ n ∷ sibling_numbers (n + entries_in (built tree (c ∷ []))) (built tree cs)

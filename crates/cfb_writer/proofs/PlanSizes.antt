@@ -9,7 +9,7 @@ use Rattle.carrier_model.specs.Tables.{difat_count}
 use Rattle.cfb_writer.specs.Laid.{slots_in}
 use Rattle.cfb_writer.specs.Planned.{laid_of, planned}
 use Rattle.cfb_writer.specs.Shares.{share_total}
-use Rattle.cfb_writer.specs.Trees.{long_in, mini_in}
+use Rattle.cfb_list.specs.Trees.{long_in, mini_in}
 use Rattle.cfb_writer.specs.declared.streams.Share.{Share}
 use Rattle.cfb_writer.specs.declared.streams.Share.TheVariants.{Short, Long}
 use Rattle.cfb_writer.proofs.Numbered.{slots_count}

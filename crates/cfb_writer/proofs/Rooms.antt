@@ -4,13 +4,13 @@ use Rattle.std.specs.List.{AllByRecursion}
 use Rattle.std.proofs.lemmas.List.{take_more, get_or-map, length-map}
 use Rattle.carrier_model.specs.FileTrees.{FileTree, entries_in}
 use Rattle.carrier_model.specs.Totals.{capped}
-use Rattle.cfb_writer.specs.Contents.{child_named, child_of}
-use Rattle.cfb_writer.specs.Listed.{Child, stream, storage, built, IsChild}
+use Rattle.cfb_list.specs.Contents.{child_named, child_of}
+use Rattle.cfb_list.specs.Listed.{Child, stream, storage, built, IsChild}
 use Rattle.cfb_writer.specs.Totals.{totals_of}
-use Rattle.cfb_writer.specs.Trees.{mini_in, long_in}
-use Rattle.cfb_writer.specs.declared.content.File.{File}
-use Rattle.cfb_writer.specs.declared.content.Kind.{Kind}
-use Rattle.cfb_writer.specs.declared.content.Kind.TheVariants.{Stream, Storage as StorageKind}
+use Rattle.cfb_list.specs.Trees.{mini_in, long_in}
+use Rattle.cfb_list.specs.declared.content.File.{File}
+use Rattle.cfb_list.specs.declared.content.Kind.{Kind}
+use Rattle.cfb_list.specs.declared.content.Kind.TheVariants.{Stream, Storage as StorageKind}
 use Rattle.cfb_writer.specs.declared.totals.Totals.{Totals}
 
 pub entries_more : (tree : ℕ → FileTree) (xs ys : List Child) → entries_in (built tree (xs ++ ys)) ≡ entries_in (built tree xs) + entries_in (built tree ys)

@@ -3,7 +3,7 @@ use Rattle.std.specs.Prelude.{ℕ, List, ◌∷◌, ◌++◌, replicate, if◌th
 use Rattle.carrier_model.specs.Bytes.{le32}
 use Rattle.carrier_model.specs.Chains.{end_word}
 use Rattle.carrier_model.specs.Layout.{Slot, BLACK, name_field, is_short, is_long}
-use Rattle.cfb_writer.specs.Contents.{child_of}
+use Rattle.cfb_list.specs.Contents.{child_of}
 use Rattle.cfb_writer.specs.Placed.{slot_of}
 use Rattle.cfb_writer.specs.declared.directory.Fields.{Fields}
 use Rattle.cfb_writer.specs.declared.directory.Next.{Next}

@@ -3,9 +3,9 @@ use Rattle.std.specs.Prelude.{◌≡◌, ℕ, ◌+◌, ◌<◌, All, List, [], �
 use Rattle.std.specs.List.{AllByRecursion}
 use Rattle.carrier_model.specs.FileTrees.{entries_in}
 use Rattle.carrier_model.specs.Layout.{Slot, links_of_siblings, sibling_numbers, slots_from, top_of}
-use Rattle.cfb_writer.specs.Listed.{Child, built, children_at}
+use Rattle.cfb_list.specs.Listed.{Child, built, children_at}
 use Rattle.cfb_writer.specs.Placed.{IsPlace, slots_at}
-use Rattle.cfb_writer.specs.Trees.{inside}
+use Rattle.cfb_list.specs.Trees.{inside}
 use Rattle.cfb_writer.specs.declared.placing.Level.{Level}
 use Rattle.cfb_writer.specs.declared.placing.Place.{Place}
 

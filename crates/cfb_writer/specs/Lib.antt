@@ -1,9 +1,6 @@
-pub mod Contents
 pub mod Entered
-pub mod Grown
 pub mod Laid
 pub mod Levels
-pub mod Listed
 pub mod Measures
 pub mod Numbered
 pub mod Placed
@@ -12,8 +9,6 @@ pub mod PlanKept
 pub mod Planned
 pub mod Runs
 pub mod Shares
-pub mod Sorting
 pub mod Summed
 pub mod Totals
-pub mod Trees
 pub mod Versions

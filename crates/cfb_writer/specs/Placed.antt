@@ -3,7 +3,7 @@ use Rattle.std.specs.Prelude.{◌≡◌, ℕ, ◌<◌, ◌≤◌, List, [], leng
 use Rattle.carrier_model.specs.FileTrees.{FileTree, NO_CLASS, entries_in}
 use Rattle.carrier_model.specs.Layout.{Slot, STREAM, STORAGE}
 use Rattle.carrier_model.specs.Totals.{capped}
-use Rattle.cfb_writer.specs.Listed.{Child, stream, storage, children_at}
+use Rattle.cfb_list.specs.Listed.{Child, stream, storage, children_at}
 use Rattle.cfb_writer.specs.declared.placing.Place.{Place}
 use Rattle.cfb_writer.specs.declared.totals.Totals.{Totals}
 

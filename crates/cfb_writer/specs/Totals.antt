@@ -2,7 +2,7 @@
 use Rattle.std.specs.Prelude.{◌≡◌, ℕ, ◌<◌, ◌≤◌, List, length, get_or}
 use Rattle.carrier_model.specs.FileTrees.{FileTree, entries_in}
 use Rattle.carrier_model.specs.Totals.{capped}
-use Rattle.cfb_writer.specs.Trees.{mini_in, long_in}
+use Rattle.cfb_list.specs.Trees.{mini_in, long_in}
 use Rattle.cfb_writer.specs.declared.totals.Totals.{Totals}
 
 abbrev pub totals_of : ℕ → FileTree → Totals

@@ -2,10 +2,10 @@
 ghost use Rattle.std.specs.Prelude.{◌≡◌, replicate};
 ghost use Rattle.carrier_model.specs.Bytes.{sum16};
 ghost use Rattle.carrier_io.specs.Known.{joined};
-ghost use Rattle.cfb_writer.specs.Contents.{content_bytes};
+ghost use Rattle.cfb_list.specs.Contents.{content_bytes};
 ghost use Rattle.cfb_writer.specs.Summed.{Sums};
 
-use crate::content::Content;
+use cfb_list::Content;
 use carrier_io::{Blob, Failed, Sink, write_pieces};
 
 /// The bytes of a piece of zeros.

@@ -3,7 +3,7 @@ ghost use Rattle.std.specs.Prelude.{◌≡◌, ◌≤◌, ◌<◌, ◌+◌, ◌^
 ghost use Rattle.std.specs.List.{flat_map, range_with_len, AllByRecursion};
 ghost use Rattle.carrier_model.specs.Bytes.{le16};
 ghost use Rattle.carrier_model.specs.Layout as layout;
-ghost use Rattle.cfb_writer.specs.Contents.{content_bytes};
+ghost use Rattle.cfb_list.specs.Contents.{content_bytes};
 ghost use Rattle.cfb_writer.specs.Entered.{slot_seen, record_bytes, stream_start};
 ghost use Rattle.cfb_writer.specs.Laid.{bytes_of, IsShort, root_slot, slots_in, others_of};
 ghost use Rattle.cfb_writer.specs.Numbered.{plan_seen, IsSmall, IsPlanFor};
@@ -12,7 +12,7 @@ ghost use Rattle.cfb_writer.specs.Shares.{share_total};
 ghost use Rattle.cfb_writer.specs.Versions.{sector_of};
 
 use crate::appending::{append, append_parts, append_zeros};
-use crate::content::{Content, Kind};
+use cfb_list::{Content, Kind};
 use crate::entries::{Entries, Entry};
 use crate::header::start_or_end;
 use crate::links::NO_LINK;

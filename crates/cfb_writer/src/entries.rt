@@ -1,8 +1,8 @@
 //! The entries of a directory.
 ghost use Rattle.std.specs.Prelude.{◌≡◌, ◌<◌, length, Some, All, slice_get};
 
-use crate::content::File;
-use crate::list::FileList;
+use cfb_list::File;
+use cfb_list::FileList;
 use crate::placing::Place;
 use carrier_io::Blob;
 use std::marker::Model;

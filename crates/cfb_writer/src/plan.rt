@@ -1,6 +1,6 @@
 //! A compound file, planned and written.
 use crate::entries::Entries;
-use crate::list::FileList;
+use cfb_list::FileList;
 use crate::numbers::Numbers;
 use crate::parts::measured;
 use crate::plan_entries::entries_of;
@@ -37,7 +37,7 @@ impl<'t, B: Blob> Model for Plan<'t, B> {
 
 impl<'t, B: Blob> Plan<'t, B> {
     ghost use Rattle.std.specs.Prelude.{◌≡◌, length, IfOk, IfErr};
-    ghost use Rattle.cfb_writer.specs.Listed.{tree_of};
+    ghost use Rattle.cfb_list.specs.Listed.{tree_of};
     ghost use Rattle.cfb_writer.specs.Planned.{layout_of};
     ghost use Rattle.cfb_writer.specs.PlanEnds.{IsEndOf};
     ghost use Rattle.carrier_io.specs.Known.{Writes};

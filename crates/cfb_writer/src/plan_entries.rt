@@ -1,13 +1,13 @@
 //! The entries of a sorted list.
 ghost use Rattle.std.specs.Prelude.{◌≡◌, ◌≤◌, ◌+◌, length, IfOk};
 ghost use Rattle.carrier_model.specs.FileTrees.{entries_in};
-ghost use Rattle.cfb_writer.specs.Listed.{tree_of};
+ghost use Rattle.cfb_list.specs.Listed.{tree_of};
 ghost use Rattle.cfb_writer.specs.Placed.{AreCounted};
 ghost use Rattle.cfb_writer.specs.Planned.{laid_of};
-ghost use Rattle.cfb_writer.specs.Trees.{inside};
+ghost use Rattle.cfb_list.specs.Trees.{inside};
 
 use crate::entries::Entries;
-use crate::list::FileList;
+use cfb_list::FileList;
 use crate::placing::{append_level, level_of};
 use crate::totals::Totals;
 use carrier_io::{Blob, NoMemory};

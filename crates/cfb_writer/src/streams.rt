@@ -2,14 +2,14 @@
 ghost use Rattle.std.specs.Prelude.{◌≡◌, ◌≤◌, ◌<◌, ◌+◌, List, ℕ};
 ghost use Rattle.std.specs.List.{flat_map};
 ghost use Rattle.carrier_model.specs.Layout as layout;
-ghost use Rattle.cfb_writer.specs.Contents.{content_bytes, child_named};
+ghost use Rattle.cfb_list.specs.Contents.{content_bytes, child_named};
 ghost use Rattle.cfb_writer.specs.Laid.{bytes_of};
 ghost use Rattle.cfb_writer.specs.Placed.{slot_of};
 ghost use Rattle.cfb_writer.specs.Shares as shares;
 ghost use Rattle.cfb_writer.specs.Summed.{Sums};
 
 use crate::appending::{append_content, append_zeros};
-use crate::content::{Content, Kind};
+use cfb_list::{Content, Kind};
 use crate::entries::Entries;
 use crate::runs::{Run, append_run};
 use carrier_io::{Blob, Failed, Sink};

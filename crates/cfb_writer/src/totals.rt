@@ -2,14 +2,14 @@
 ghost use Rattle.std.specs.Prelude.{◌≡◌, ◌<◌, ◌+◌, ◌∷◌, [], ℕ, List, length, vec_len, IfOk};
 ghost use Rattle.carrier_model.specs.FileTrees.{FileTree};
 ghost use Rattle.carrier_model.specs.Totals.{capped};
-ghost use Rattle.cfb_writer.specs.Contents.{content_bytes, child_named};
-ghost use Rattle.cfb_writer.specs.Listed as listed;
+ghost use Rattle.cfb_list.specs.Contents.{content_bytes, child_named};
+ghost use Rattle.cfb_list.specs.Listed as listed;
 ghost use Rattle.cfb_writer.specs.Totals.{totals_of, AreKnown};
-ghost use Rattle.cfb_writer.specs.Trees.{inside, mini_pieces, long_pieces};
+ghost use Rattle.cfb_list.specs.Trees.{inside, mini_pieces, long_pieces};
 ghost use Rattle.cfb_writer.specs.Versions.{sector_of};
 
-use crate::content::{Content, Kind};
-use crate::list::FileList;
+use cfb_list::{Content, Kind};
+use cfb_list::FileList;
 use crate::version::Version;
 use carrier_io::{Blob, NoMemory};
 use std::alloc::Global;

@@ -1,9 +1,9 @@
 use Rattle.std.proofs.Common.{◌≡◌, ◌<◌, ◌+◌, ℕ, length, vec_len, ap, refl, subst, arith}
 use Rattle.std.proofs.lemmas.List.{length-map}
-use Rattle.cfb_writer.specs.Contents.{child_of}
+use Rattle.cfb_list.specs.Contents.{child_of}
 use Rattle.cfb_writer.specs.Levels.{IsWhole}
-use Rattle.cfb_writer.specs.Listed.{children_at}
-use Rattle.cfb_writer.specs.declared.content.Kind.TheVariants.{Storage}
+use Rattle.cfb_list.specs.Listed.{children_at}
+use Rattle.cfb_list.specs.declared.content.Kind.TheVariants.{Storage}
 use Rattle.cfb_writer.proofs.Levels.{kind_at, storage_placed}
 use Rattle.cfb_writer.proofs.placing.append_file.Goals as goal
 

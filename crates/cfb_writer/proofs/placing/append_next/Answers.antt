@@ -1,7 +1,7 @@
 use Rattle.std.proofs.Common.{◌≡◌, ◌<◌, ◌++◌, ◌∷◌, [], List, length, option_to_list, vec_len, ap, sym, ◌∙◌, arith, rules}
 use Rattle.std.proofs.lemmas.List.{append-nil, length-map}
-use Rattle.cfb_writer.specs.Contents.{child_of}
-use Rattle.cfb_writer.specs.Listed.{children_at}
+use Rattle.cfb_list.specs.Contents.{child_of}
+use Rattle.cfb_list.specs.Listed.{children_at}
 use Rattle.cfb_writer.specs.declared.placing.Level.{Level}
 use Rattle.cfb_writer.proofs.Levels.{entries_both, fewer, finished, last_level, moved, proceeds, room_next}
 use Rattle.cfb_writer.proofs.placing.append_next.Goals as goal

@@ -1,7 +1,7 @@
 use Rattle.std.proofs.Common.{◌≡◌, ◌++◌, ℕ, List, length, sym, ap, ◌∙◌}
 use Rattle.carrier_model.specs.Layout.{links_of_siblings, sibling_numbers, top_of}
-use Rattle.cfb_writer.specs.Listed.{children_at}
-use Rattle.cfb_writer.specs.Trees.{inside}
+use Rattle.cfb_list.specs.Listed.{children_at}
+use Rattle.cfb_list.specs.Trees.{inside}
 use Rattle.cfb_writer.proofs.Numbered.{links_count, numbers_count}
 use Rattle.cfb_writer.proofs.placing.level_of.Goals as goal
 

@@ -1,9 +1,9 @@
 use Rattle.std.proofs.Common.{◌≡◌, ◌<◌, ◌≤◌, ◌+◌, ◌∷◌, [], ℕ, List, length, map, sym, subst, arith}
 use Rattle.carrier_model.specs.FileTrees.{entries_in}
 use Rattle.carrier_model.specs.Totals.{capped}
-use Rattle.cfb_writer.specs.Contents.{child_of}
-use Rattle.cfb_writer.specs.Listed.{Child, IsChild, built}
-use Rattle.cfb_writer.specs.Trees.{inside}
+use Rattle.cfb_list.specs.Contents.{child_of}
+use Rattle.cfb_list.specs.Listed.{Child, IsChild, built}
+use Rattle.cfb_list.specs.Trees.{inside}
 use Rattle.cfb_writer.proofs.Rooms.{nameless, file_at}
 use Rattle.cfb_writer.proofs.Numbered.{dropped_more, room_here, numbered_more}
 use Rattle.cfb_writer.proofs.placing.sibling_numbers.Goals as goal

@@ -1,6 +1,6 @@
 use Rattle.std.proofs.Common.{map}
-use Rattle.cfb_writer.specs.Contents.{child_of}
-use Rattle.cfb_writer.specs.Trees.{inside}
+use Rattle.cfb_list.specs.Contents.{child_of}
+use Rattle.cfb_list.specs.Trees.{inside}
 use Rattle.cfb_writer.proofs.Numbered.{Numbering}
 use Rattle.cfb_writer.proofs.placing.sibling_numbers.Given as goal
 

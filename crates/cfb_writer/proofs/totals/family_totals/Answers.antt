@@ -1,8 +1,8 @@
 use Rattle.std.proofs.Common.{◌<◌, ◌∷◌, [], ℕ, List, length, take, map, sym, ap, subst, ◌∙◌}
-use Rattle.cfb_writer.specs.Contents.{child_of}
-use Rattle.cfb_writer.specs.Listed.{Child, IsChild, built}
+use Rattle.cfb_list.specs.Contents.{child_of}
+use Rattle.cfb_list.specs.Listed.{Child, IsChild, built}
 use Rattle.cfb_writer.specs.Totals.{totals_of}
-use Rattle.cfb_writer.specs.Trees.{inside}
+use Rattle.cfb_list.specs.Trees.{inside}
 use Rattle.cfb_writer.specs.Versions.{sector_of}
 use Rattle.cfb_writer.proofs.Rooms.{totals_more, nameless, file_at, taken_more}
 use Rattle.cfb_writer.proofs.totals.family_totals.Goals as goal

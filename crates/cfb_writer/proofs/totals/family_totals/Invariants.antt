@@ -1,8 +1,8 @@
 use Rattle.std.proofs.Common.{◌≡◌, take, map}
-use Rattle.cfb_writer.specs.Contents.{child_of}
-use Rattle.cfb_writer.specs.Listed.{built}
+use Rattle.cfb_list.specs.Contents.{child_of}
+use Rattle.cfb_list.specs.Listed.{built}
 use Rattle.cfb_writer.specs.Totals.{totals_of}
-use Rattle.cfb_writer.specs.Trees.{inside}
+use Rattle.cfb_list.specs.Trees.{inside}
 use Rattle.cfb_writer.specs.Versions.{sector_of}
 use Rattle.cfb_writer.proofs.totals.family_totals.Given as goal
 

@@ -1,0 +1,5 @@
+pub mod Contents
+pub mod Grown
+pub mod Listed
+pub mod Sorting
+pub mod Trees

@@ -1,7 +1,0 @@
-use Rattle.std.proofs.Common.{◌≡◌, ◌++◌, map, take, drop}
-use Rattle.cfb_writer.specs.Contents.{children_of}
-use Rattle.cfb_writer.specs.Sorting.{siblings_in_order}
-use Rattle.cfb_writer.proofs.sorting.sort_all.Given as goal
-
-abbrev pub invariant-loop-k : goal.invariant-loop-k
-invariant-loop-k g l = map (children_of g.B.Blob.bytes) l.storages ≡ map siblings_in_order (take l.k (map (children_of g.B.Blob.bytes) l.initial.storages)) ++ drop l.k (map (children_of g.B.Blob.bytes) l.initial.storages)
