@@ -2,8 +2,8 @@
 use Rattle.std.proofs.Common.{◌≡◌, inl, inr, ℕ, zero, suc, ◌+◌, ◌-◌, ◌<◌, ◌≤◌, length, get_or, List, [], ◌∷◌, map, take, min, refl, sym, ap, subst, ◌∙◌, true, false, arith}
 use Rattle.std.proofs.lemmas.Bool.{cases_lt}
 use Rattle.std.proofs.lemmas.Cmp.{nat_cmp_total, on_total, then_total, ranked}
-use Rattle.std.proofs.lemmas.List.{get_or_default, get_or-map, get_or-take, length-map, length-take-le}
-use Rattle.std.proofs.lemmas.List.Sorted.{Contains-permutation, IsPermutation-sym, IsPermutation-map, ranks_by, sorted_far}
+use Rattle.std.proofs.lemmas.List.{get_or_default, get_or-map, get_or-take, length-map, length-take-le, same_lists}
+use Rattle.std.proofs.lemmas.List.Sorted.{Contains-permutation, IsPermutation-sym, IsPermutation-map, length_permutation, ranks_by, sorted_far}
 use Rattle.std.proofs.lemmas.Map.Keys.{IsDistinct-IsPermutation, IsDistinct-from_apart, apart_from_distinct}
 use Rattle.std.specs.Prelude.{IsPermutation, Contains, Option, Some, None, IfSome, unwrap_or}
 use Rattle.std.specs.Cmp.{IsTotalOrder}
@@ -17,15 +17,9 @@ use Rattle.carrier_model.proofs.Orders.{prop_total}
 use Rattle.carrier_model.proofs.Place.{view_read}
 use Rattle.carrier_model.proofs.SortedElements.{equal_by, equal_flips, elements_good}
 use Rattle.carrier_model.proofs.SortedLists.{same_sorted}
-use Rattle.prop_values.specs.Arrivals.{AreDifferent, IsFirstDouble, AreInPlace, pair_cmp, IsSortedByPair, IsDoubleAt, IsAtMost, IsLeastDouble}
-
-below : (i j : ℕ) → i < j → nat_cmp i j ≡ Less
-below i j lt = by (nat_cmp i j) refl (ranked i j (nat_cmp i j) refl)
-  where
-    by : (a : Ordering) → nat_cmp i j ≡ a → MatchOrdering a (i < j) (i ≡ j) (j < i) → nat_cmp i j ≡ Less
-    by Less e m = e
-    by Equal e m = absurd (omega (arith, m, lt))
-    by Greater e m = absurd (omega (arith, m, lt))
+use Rattle.prop_values.proofs.Ranks.{below}
+use Rattle.prop_values.specs.Arranged.{ArePlaces}
+use Rattle.prop_values.specs.Arrivals.{AreDifferent, AreOrdered, IsFirstDouble, AreInPlace, pair_cmp, IsSortedByPair, IsDoubleAt, IsAtMost, IsLeastDouble}
 
 from_below : (i j : ℕ) → nat_cmp i j ≡ Less → i < j
 from_below i j e = subst (λ a. MatchOrdering a (i < j) (i ≡ j) (j < i)) e (ranked i j (nat_cmp i j) refl)
@@ -76,6 +70,9 @@ module _ {A : Type 0} {R : A → A → Ordering} (o : IsTotalOrder R) where
       by Less Less e f = let h : Less ≡ Equal = sym (o.trans x z y e f) ∙ same in cc
       by Equal Less e f = let h : Less ≡ Equal = sym (o.congr x z y e ∙ f) ∙ same in cc
       by Greater Less e f = absurd (low e)
+
+pub different_distinct : (ps : List Prop) → AreDifferent ps → IsDistinct (equal_by prop_cmp) ps
+different_distinct ps different = IsDistinct-from_apart (equal_by prop_cmp) ps (λ i j d lt in_range. apart_from prop_total (get_or ps i d) (get_or ps j d) (different i j d lt in_range))
 
 module _ {X : Type 0} (xs : List X) (prop : X → Prop) (place : X → ℕ) where
   -- of each place of a double there is one
@@ -265,19 +262,19 @@ module _ {X : Type 0} (prop : X → Prop) (place : X → ℕ) where
     none_double : IsLeastDouble ys prop place (length ys) None → (i j : ℕ) (d : X) → i < j → j < length xs → prop_cmp (prop (get_or xs i d)) (prop (get_or xs j d)) ≡ Equal → ⊥
     none_double least i j d lt in_range same = let shown = double_shows i j d lt in_range same in least.all shown.0 j shown.1 shown.2
 
-    pub different : IsLeastDouble ys prop place (length ys) None → AreDifferent (map prop xs)
+    different : IsLeastDouble ys prop place (length ys) None → AreDifferent (map prop xs)
     different least i j d lt in_range same =
         let in_xs : j < length xs = omega (arith, in_range, length-map xs prop) in
         let e : X = some_of xs j in_xs in
         none_double least i j e lt in_xs (sym (ap (λ p. prop_cmp p (get_or (map prop xs) j d)) (get_or-map prop xs i e d (omega arith)) ∙ ap (λ p. prop_cmp (prop (get_or xs i e)) p) (get_or-map prop xs j e d in_xs)) ∙ same)
 
     distinct : IsLeastDouble ys prop place (length ys) None → IsDistinct (equal_by prop_cmp) (map prop xs)
-    distinct least = IsDistinct-from_apart (equal_by prop_cmp) (map prop xs) (λ i j d lt in_range. apart_from prop_total (get_or (map prop xs) i d) (get_or (map prop xs) j d) (different least i j d lt in_range))
+    distinct least = different_distinct (map prop xs) (different least)
 
     moved_props : IsPermutation (map prop xs) (map prop ys)
     moved_props = IsPermutation-map prop xs ys moved
 
-    pub sorted_props : IsLeastDouble ys prop place (length ys) None → IsStrictlySorted prop_cmp (map prop ys)
+    sorted_props : IsLeastDouble ys prop place (length ys) None → IsStrictlySorted prop_cmp (map prop ys)
     sorted_props least i j d lt in_range =
         let in_ys : j < length ys = omega (arith, in_range, length-map ys prop) in
         let e : X = some_of ys j in_ys in
@@ -286,10 +283,82 @@ module _ {X : Type 0} (prop : X → Prop) (place : X → ℕ) where
         less_or_equal prop_total (get_or (map prop ys) i d) (get_or (map prop ys) j d) apart
         (λ f. not_above (get_or ys i e) (get_or ys j e) rises (sym (ap (λ p. prop_cmp p (get_or (map prop ys) j d)) (get_or-map prop ys i e d (omega arith)) ∙ ap (λ p. prop_cmp (prop (get_or ys i e)) p) (get_or-map prop ys j e d in_ys)) ∙ f))
 
-    pub all_sorted : IsLeastDouble ys prop place (length ys) None → map prop ys ≡ with_elements prop_cmp [] (map prop xs)
+    all_sorted : IsLeastDouble ys prop place (length ys) None → map prop ys ≡ with_elements prop_cmp [] (map prop xs)
     all_sorted least =
         let good = elements_good prop_total (map prop xs) (distinct least) in
         same_sorted prop_total (map prop xs) (with_elements prop_cmp [] (map prop xs)) (map prop ys) good.1 moved_props good.0 (sorted_props least)
+
+    -- an element of the sorted list stood at its place
+    came_from : (k : ℕ) (d : X) → k < length ys → (place (get_or ys k d) < length xs) × (get_or xs (place (get_or ys k d)) (get_or ys k d) ≡ get_or ys k d)
+    came_from k d lt = found (Contains-permutation ys xs (get_or ys k d) (IsPermutation-sym xs ys moved) (k, lt, get_or_default ys k (get_or ys k d) d lt))
+      where
+        found : Contains xs (get_or ys k d) → (place (get_or ys k d) < length xs) × (get_or xs (place (get_or ys k d)) (get_or ys k d) ≡ get_or ys k d)
+        found (m, m_in, e) =
+            let at : place (get_or ys k d) ≡ m = sym (ap place e) ∙ stand m (get_or ys k d) m_in in
+            (omega (arith, at, m_in), subst (λ n. get_or xs n (get_or ys k d) ≡ get_or ys k d) (sym at) e)
+
+    as_long : length ys ≡ length xs
+    as_long = length_permutation xs ys moved
+
+    place_at : (k : ℕ) (d : X) → k < length ys → get_or (map place ys) k 0 ≡ place (get_or ys k d)
+    place_at k d lt = get_or-map place ys k d 0 lt
+
+    -- two elements of the sorted list have two places
+    places_differ : (i j : ℕ) (d : X) → i < j → j < length ys → place (get_or ys i d) ≡ place (get_or ys j d) → ⊥
+    places_differ i j d lt in_range e =
+        let one = came_from i d (omega (arith, lt, in_range)) in
+        let other = came_from j d in_range in
+        let same : get_or ys i d ≡ get_or ys j d = sym one.1 ∙ get_or_default xs (place (get_or ys i d)) (get_or ys i d) (get_or ys j d) one.0 ∙ ap (λ n. get_or xs n (get_or ys j d)) e ∙ other.1 in
+        irreflexive by_pair (get_or ys j d) (subst (λ (z : X). pair_cmp prop place z (get_or ys j d) ≡ Less) same (strict i j d lt in_range))
+
+    places_once : ArePlaces (map place ys)
+    places_once = record {
+      within = λ k lt.
+          let lt' : k < length ys = omega (arith, lt, length-map ys place) in
+          let d : X = some_of ys k lt' in
+          omega (arith, place_at k d lt', (came_from k d lt').0, length-map ys place, as_long);
+      apart = λ i j i_in j_in e.
+          let i_in' : i < length ys = omega (arith, i_in, length-map ys place) in
+          let j_in' : j < length ys = omega (arith, j_in, length-map ys place) in
+          let d : X = some_of ys i i_in' in
+          let same : place (get_or ys i d) ≡ place (get_or ys j d) = sym (place_at i d i_in') ∙ e ∙ place_at j d j_in' in
+          elim (cases_lt i j) [
+            | inl before ↦ absurd (places_differ i j d before j_in' same)
+            | inr from ↦ elim (cases_lt j i) [
+              | inl after ↦ absurd (places_differ j i d after i_in' (sym same))
+              | inr to ↦ omega (arith, from, to)
+            ]
+          ];
+      all = λ p lt.
+          let p_in : p < length xs = omega (arith, lt, length-map ys place, as_long) in
+          let d : X = some_of xs p p_in in
+          found p d p_in (there p d p_in);
+    }
+      where
+        found : (p : ℕ) (d : X) → p < length xs → Contains ys (get_or xs p d) → (k : ℕ) × (k < length (map place ys)) × (get_or (map place ys) k 0 ≡ p)
+        found p d p_in (k, k_in, e) = (k, omega (arith, k_in, length-map ys place), place_at k (get_or xs p d) k_in ∙ (ap place e ∙ stand p d p_in))
+
+    -- the elements at the places are the sorted ones
+    picked : (d : Prop) → map (λ k. get_or (map prop xs) k d) (map place ys) ≡ map prop ys
+    picked d = same_lists (map (λ k. get_or (map prop xs) k d) (map place ys)) (map prop ys) (length-map (map place ys) (λ k. get_or (map prop xs) k d) ∙ (length-map ys place ∙ sym (length-map ys prop))) (λ k e lt. at k e (omega (arith, lt, length-map (map place ys) (λ k. get_or (map prop xs) k d), length-map ys place)))
+      where
+        at : (k : ℕ) (e : Prop) → k < length ys → get_or (map (λ k. get_or (map prop xs) k d) (map place ys)) k e ≡ get_or (map prop ys) k e
+        at k e lt =
+            let f : X = some_of ys k lt in
+            let y : X = get_or ys k f in
+            let from = came_from k f lt in
+            get_or-map (λ k. get_or (map prop xs) k d) (map place ys) k 0 e (omega (arith, lt, length-map ys place))
+            ∙ (ap (λ n. get_or (map prop xs) n d) (place_at k f lt)
+            ∙ (get_or-map prop xs (place y) y d from.0 ∙ (ap prop from.1 ∙ sym (get_or-map prop ys k f e lt))))
+
+    -- where there is no double, the places are the order
+    pub ordered : IsLeastDouble ys prop place (length ys) None → AreOrdered (map prop xs) (map place ys)
+    ordered least = record {
+      different = different least;
+      places_are = places_once;
+      each = length-map ys place ∙ (as_long ∙ sym (length-map xs prop));
+      sorted = λ d. picked d ∙ all_sorted least;
+    }
 
     -- where there is one, the least place of one is that of the first double
     pub first_is : (k : ℕ) → IsLeastDouble ys prop place (length ys) (Some k) → IsFirstDouble (map prop xs) k

@@ -1,1 +1,5 @@
+pub mod Arranged
 pub mod Doubles
+pub mod Ranks
+mod Spots
+pub mod Arriving

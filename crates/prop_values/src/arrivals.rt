@@ -1,47 +1,40 @@
 //! Properties that come in any order.
-ghost use Rattle.std.specs.Prelude.{◌≡◌, ◌∷◌, ◌++◌, [], length, map, OnOk, OnErr, IfOk, IfErr, IfSome, IfNone, IsTrue, ◌↔◌, IsPermutation};
-ghost use Rattle.std.specs.Ordering.{nat_cmp, ordering_then};
+ghost use Rattle.std.specs.Prelude.{◌≡◌, ◌∷◌, ◌++◌, ℕ, List, [], OnOk, OnErr, IfOk, IfErr, IsTrue};
 ghost use Rattle.carrier_model.specs.Values as plain;
 ghost use Rattle.carrier_model.specs.Sorted.{with_elements};
-ghost use Rattle.prop_values.specs.Arrivals.{AreDifferent, IsDoubleOf, IsSortedByPair, IsLeastDouble};
+ghost use Rattle.prop_values.specs.Arrivals.{AreDifferent, AreMarksOf, IsDoubleOf, IsAboveLast};
 
+use crate::arranging::arrange;
 use crate::prop_list::Props;
 use crate::props::Prop;
+use crate::sorting::{Order, order_of};
 use carrier_io::{Blob, NoMemory};
 use std::alloc::Global;
-use std::cmp::Ordering;
 use std::marker::Model;
 
-// A property, and how many came before it.
-#[derive(Drop)]
-struct Arrival<B: Blob> {
-    prop: Prop<B>,
-    place: usize,
-}
-
-/// Properties in the order in which they came. They are put in order all at once.
+/// Properties in the order in which they came, each with a mark of the reader's. They are put in order all at once;
+/// those that come in order are only kept.
 #[derive(Drop)]
 pub struct Arrivals<B: Blob> {
-    list: Vec<Arrival<B>>,
+    list: Vec<Prop<B>>,
+    // The marks of the last properties, from the first on that is not above the one before it.
+    marks: Vec<u64>,
 }
 
 impl<B: Blob> Model for Arrivals<B> {
-    ghost use Rattle.std.specs.Prelude.{List, map};
-    ghost use Rattle.carrier_model.specs.Values.{Prop as PlainProp};
-    ghost use Rattle.prop_values.specs.Arrivals.{AreInPlace};
+    ghost use Rattle.prop_values.specs.Arrivals.{Came, RiseAtFront};
 
-    ghost Value = { List PlainProp };
+    ghost Value = { Came };
 
-    ghost view = { λ s. map (λ a. a.prop) s.list.items };
+    ghost view = { λ s. record { props = s.list.items; marks = s.marks.items } };
 
-    ghost invariant = { λ s. AreInPlace s.list.items (λ a. a.place) };
+    ghost invariant = { λ s. RiseAtFront s.list.items s.marks.items };
 }
 
-/// Why there is no sorted list: the place of the first property whose key and kind an earlier one has, or want of
-/// memory.
+/// Why there is no sorted list: the mark of the first property whose key and kind an earlier one has, or want of memory.
 #[derive(Clone, Copy, Debug, PartialEq, Eq)]
 pub enum SettleEnd {
-    Duplicate(usize),
+    Duplicate(u64),
     NoMemory,
 }
 
@@ -58,76 +51,66 @@ impl From<NoMemory> for SettleEnd {
 
 impl<B: Blob> Arrivals<B> {
     pub fn new(alloc: Global) -> Arrivals<B>
-        ensures { result ≡ [] }
+        ensures none { result.props ≡ [] }
+        ensures unmarked { AreMarksOf result [] }
     {
         Arrivals {
             list: Vec::new(alloc),
+            marks: Vec::new(alloc),
         }
     }
 
-    /// Puts a property behind all others.
-    pub fn push(&mut self, prop: Prop<B>) -> Result<(), NoMemory>
-        ensures ok { OnOk result (self.new ≡ self.old ++ prop ∷ []) }
+    /// Takes room for so many at once. Where memory is short, they take theirs as they come.
+    pub fn make_room(&mut self, count: usize)
+        ensures { self.new ≡ self.old }
+    {
+        let _ = self.list.reserve_exact(count);
+    }
+
+    // Whether the property is above the last one, or the first.
+    fn ends_below(&self, prop: &Prop<B>) -> bool
+        ensures { IsTrue result → IsAboveLast self.now.props prop.now }
+    {
+        match self.list.last() {
+            Some(last) => last.order(prop).is_lt(),
+            None => true,
+        }
+    }
+
+    /// Puts a property behind all others, with its mark.
+    pub fn push(&mut self, prop: Prop<B>, mark: u64) -> Result<(), NoMemory>
+        ensures ok { OnOk result (self.new.props ≡ self.old.props ++ prop ∷ []) }
+        ensures marked { OnOk result ((marks : List ℕ) → AreMarksOf self.old marks → AreMarksOf self.new (marks ++ mark ∷ [])) }
         ensures err { OnErr result (self.new ≡ self.old) }
     {
-        let place = self.list.len();
-        self.list.push(Arrival { prop, place })?;
+        if self.marks.is_empty() && self.ends_below(&prop) {
+            self.list.push(prop)?;
+            return Ok(());
+        }
+        self.list.reserve(1)?;
+        self.marks.push(mark)?;
+        self.list.push(prop)?;
         Ok(())
     }
 
-    /// The sorted list of them.
+    /// The sorted list of them. It is the vector that they came into.
     pub fn settle(self) -> Result<Props<B>, SettleEnd>
-        ensures settled { IfOk result (λ r. (r ≡ with_elements plain.prop_cmp [] self) × AreDifferent self) }
-        ensures refused { IfErr result (IsDoubleOf self) }
+        ensures settled { IfOk result (λ r. (r ≡ with_elements plain.prop_cmp [] self.props) × AreDifferent self.props) }
+        ensures refused { (marks : List ℕ) → AreMarksOf self marks → IfErr result (IsDoubleOf self.props marks) }
     {
-        let Arrivals { list } = self;
-        let list = sorted_by_pair(list);
-        match first_double(&list) {
-            Some(place) => Err(SettleEnd::Duplicate(place)),
-            None => Ok(Props::of_sorted(props_of(list)?)),
+        let Arrivals { mut list, marks } = self;
+        if marks.is_empty() {
+            return Ok(Props::of_sorted(list));
+        }
+        match order_of(*list.allocator(), &list)? {
+            Order::Double(place) => {
+                let unmarked = list.len() - marks.len();
+                Err(SettleEnd::Duplicate(marks[place - unmarked]))
+            }
+            Order::Places(places) => {
+                arrange(&mut list, places)?;
+                Ok(Props::of_sorted(list))
+            }
         }
     }
-}
-
-// By key and kind, and where these are the same by place.
-fn sorted_by_pair<B: Blob>(mut list: Vec<Arrival<B>>) -> Vec<Arrival<B>>
-    ensures permutation { IsPermutation list.items result.items }
-    ensures sorted { IsSortedByPair result.items (λ a. a.prop) (λ a. a.place) }
-{
-    list.sort_unstable_by(
-        |one: &Arrival<B>, other: &Arrival<B>| -> Ordering
-            ensures { result ≡ ordering_then (plain.prop_cmp one.now.prop other.now.prop) (nat_cmp one.now.place other.now.place) }
-        {
-            one.prop
-                .order(&other.prop)
-                .then(one.place.cmp(&other.place))
-        },
-    );
-    list
-}
-
-// The least place of those whose left neighbour has the same key and kind.
-fn first_double<B: Blob>(list: &[Arrival<B>]) -> Option<usize>
-    ensures { IsLeastDouble list.now (λ a. a.prop) (λ a. a.place) (length list.now) result }
-{
-    let mut first = None;
-    for k in 1..list.len() {
-        if list[k - 1].prop.order(&list[k].prop).is_eq() {
-            let place = list[k].place;
-            first = Some(place.min(first.unwrap_or(place)));
-        }
-    }
-    first
-}
-
-// The properties without their places.
-fn props_of<B: Blob>(list: Vec<Arrival<B>>) -> Result<Vec<Prop<B>>, NoMemory>
-    ensures { IfOk result (λ props. props.items ≡ map (λ a. a.prop) list.items) }
-{
-    let mut props = Vec::with_capacity(*list.allocator(), list.len())?;
-    for arrival in list {
-        let Arrival { prop, place: _ } = arrival;
-        props.push(prop)?;
-    }
-    Ok(props)
 }

@@ -150,8 +150,9 @@ fn kinds(rt: HostRuntime) -> Result<(), Fail> {
 #[test]
 fn arrivals_are_put_in_order(rt: HostRuntime) -> Result<(), Fail> {
     let mut list = Arrivals::new(rt.alloc());
-    list.push(integer(0x0026, 1)).ok().ok_or("no memory")?;
-    list.push(integer(0x0017, 2)).ok().ok_or("no memory")?;
+    list.make_room(2);
+    list.push(integer(0x0026, 1), 4).ok().ok_or("no memory")?;
+    list.push(integer(0x0017, 2), 12).ok().ok_or("no memory")?;
     let props = list.settle().ok().ok_or("no memory")?;
     assert_eq!(rt; props.len(), 2);
     assert!(rt; same_prop(props.get(0), &integer(0x0017, 2)));
@@ -161,10 +162,10 @@ fn arrivals_are_put_in_order(rt: HostRuntime) -> Result<(), Fail> {
 #[test]
 fn the_first_double_is_told(rt: HostRuntime) -> Result<(), Fail> {
     let mut list = Arrivals::new(rt.alloc());
-    for id in [0x0017, 0x0026, 0x0017, 0x0026] {
-        list.push(integer(id, 0)).ok().ok_or("no memory")?;
+    for (id, mark) in [(0x0017, 4), (0x0026, 12), (0x0017, 20), (0x0026, 28)] {
+        list.push(integer(id, 0), mark).ok().ok_or("no memory")?;
     }
     let end = list.settle().err();
-    assert_eq!(rt; end, Some(SettleEnd::Duplicate(2)));
+    assert_eq!(rt; end, Some(SettleEnd::Duplicate(20)));
     Ok(())
 }

@@ -27,9 +27,9 @@ use Rattle.tnef_props.specs.Steps.{Takes, Refuses}
 use Rattle.tnef_props.specs.ReadLists.{PassedAtFront}
 use Rattle.tnef_props.specs.declared.list.Draft.{Draft}
 use Rattle.tnef_props.specs.Meaning.{object_of}
-use Rattle.tnef_props.specs.Scans.{IsEmpty, IsWith, IsSecondObject, IsDoubleFault, FirstDoubleFails}
+use Rattle.tnef_props.specs.Scans.{IsEmpty, IsWith, IsSecondObject, IsDoubleFault, FirstDoubleFails, DoublesFail}
 use Rattle.prop_values.specs.Ends.{HasPairOf}
-use Rattle.prop_values.specs.Arrivals.{AreDifferent, IsFirstDouble}
+use Rattle.prop_values.specs.Arrivals.{AreDifferent, AreMarksOf, Came, IsDoubleWith, IsFirstDouble}
 use Rattle.tnef_props.proofs.Doubles.{slice_get-seam, different_front, different_last, first_double_push}
 use Rattle.tnef_props.proofs.Forms.{such_takes, such_next, seen_takes, then_first}
 
@@ -95,9 +95,9 @@ pub record Scanned (att : Bool) (from : Rest) (count k : ℕ) (arrivals : List P
   pub each_has_offset : length offsets ≡ length arrivals
   pub doubles : FirstDoubleFails att from arrivals offsets
 
-pub scanned_none : (att : Bool) (from rest : Rest) (count : ℕ) (d : Draft) (old : List (Bool × ℕ × ℕ)) → IsEmpty d → Takes word from count rest → Scanned att from count 0 d.arrivals d.offsets.items (option_map object_of d.object) old old rest
+pub scanned_none : (att : Bool) (from rest : Rest) (count : ℕ) (arrivals : List Prop) (object : Option (ℕ × List ℕ)) (old : List (Bool × ℕ × ℕ)) → arrivals ≡ [] → object ≡ None → Takes word from count rest → Scanned att from count 0 arrivals [] object old old rest
 unfolding items
-scanned_none att from rest count d old e p = record {
+scanned_none att from rest count arrivals object old e o p = record {
   all = [];
   long = refl;
   left = count;
@@ -105,11 +105,11 @@ scanned_none att from rest count d old e p = record {
   counted = (rest.bytes.now, p.begins);
   goes = λ different. continues_then word (λ n. repeat n (item att) []) from.place from.bytes.now count rest.place rest.bytes.now p;
   stand = here;
-  arrivals_are = e.0;
-  object_is = ap (option_map object_of) e.2;
+  arrivals_are = e;
+  object_is = o;
   passed_are = sym (append-nil old);
-  each_has_offset = omega (arith, ap length e.0, ap length e.1);
-  doubles = λ k f. absurd (omega (arith, f.in_range, ap length e.0));
+  each_has_offset = omega (arith, ap length e);
+  doubles = λ k f. absurd (omega (arith, f.in_range, ap length e));
 }
   where
     behind : (rest.bytes.now ≡ drop 4 from.bytes.now) × (rest.place ≡ from.place + 4)
@@ -305,18 +305,61 @@ some_seen f (Some a) = refl
 
 -- ---- one item more in a draft
 
-module _ (att : Bool) (from : Rest) (count k : ℕ) (d d' : Draft) (old now now' : List (Bool × ℕ × ℕ)) (rest after : Rest) (g : Scanned att from count k d.arrivals d.offsets.items (option_map object_of d.object) old now rest) (lt : k < count) where
-  pub item_added : (x : Item) → Takes (any_item att) rest x after → IsWith x rest.place d d' → now' ≡ now ++ filter_map passed_in (x ∷ []) → Scanned att from count (k + 1) d'.arrivals d'.offsets.items (option_map object_of d'.object) old now' after
-  item_added (kept p) t w n = kept_more att from count k d.arrivals d.offsets.items (option_map object_of d.object) old now rest g lt p after d'.arrivals d'.offsets.items (option_map object_of d'.object) now' t w.0 w.1 (ap (option_map object_of) w.2) n
-  item_added (passed tag place) t w n = passed_more att from count k d.arrivals d.offsets.items (option_map object_of d.object) old now rest g lt tag place after d'.arrivals d'.offsets.items (option_map object_of d'.object) now' t w.0.0 w.0.1 (ap (option_map object_of) w.1) n
-  item_added (carried place content) t w n = carried_more att from count k d.arrivals d.offsets.items (option_map object_of d.object) old now rest g lt place content after d'.arrivals d'.offsets.items (option_map object_of d'.object) now' t w.0.0 w.0.1 (ap (option_map object_of) w.1) w.2 n
+-- the same of a draft, whose properties are marked with offsets
+pub record Filled (att : Bool) (from : Rest) (count k : ℕ) (d : Draft) (old now : List (Bool × ℕ × ℕ)) (rest : Rest) : Type 0 where
+  pub offsets : List ℕ
+  pub marks : AreMarksOf d.arrivals offsets
+  pub scanned : Scanned att from count k d.arrivals.props offsets (option_map object_of d.object) old now rest
 
-  second_fails : (x : Item) → Takes (any_item att) rest x after → IsSecondObject x d → AreDifferent d.arrivals → (prop_list att).fails from.place from.bytes.now (DUPLICATE_LIST_PROPERTY, rest.place)
-  second_fails (kept p) t w e = absurd w
-  second_fails (passed tag place) t w e = absurd w
-  second_fails (carried place content) t w e = carried_double att from count k d.arrivals d.offsets.items (option_map object_of d.object) old now rest g lt place content after t (some_seen object_of d.object ∙ w) e
+pub filled_none : (att : Bool) (from rest : Rest) (count : ℕ) (d : Draft) (old : List (Bool × ℕ × ℕ)) → IsEmpty d → Takes word from count rest → Filled att from count 0 d old old rest
+filled_none att from rest count d old e p = record { offsets = []; marks = e.1; scanned = scanned_none att from rest count d.arrivals.props (option_map object_of d.object) old e.0 (ap (option_map object_of) e.2) p }
 
-  pub second_refuses : (x : Item) (s : Stop) → Takes (any_item att) rest x after → OnFault (λ h. (h ≡ (DUPLICATE_LIST_PROPERTY, rest.place)) × IsSecondObject x d) s → AreDifferent d.arrivals → Refuses (prop_list att) from s
-  second_refuses x s t p e =
-      on_fault (λ h. (h ≡ (DUPLICATE_LIST_PROPERTY, rest.place)) × IsSecondObject x d) ((prop_list att).fails from.place from.bytes.now)
-      (λ h w. subst (λ (i : ℕ × ℕ). (prop_list att).fails from.place from.bytes.now i) (sym w.0) (second_fails x t w.1 e)) s p
+pub none_fail : (att : Bool) (from : Rest) (d : Draft) → IsEmpty d → DoublesFail att from d.arrivals
+none_fail att from d e = record { offsets = []; marks = e.1; fail = λ k f. absurd (omega (arith, f.in_range, ap length e.0)) }
+
+-- the same properties
+pub fail_kept : (att : Bool) (from : Rest) (old new : Came) → new ≡ old → DoublesFail att from old → DoublesFail att from new
+fail_kept att from old new e f = subst (DoublesFail att from) (sym e) f
+
+module _ (att : Bool) (from : Rest) (count k : ℕ) (d d' : Draft) (old now now' : List (Bool × ℕ × ℕ)) (rest after : Rest) (f : Filled att from count k d old now rest) where
+  pub filled_fail : DoublesFail att from d.arrivals
+  filled_fail = record { offsets = f.offsets; marks = f.marks; fail = f.scanned.doubles }
+
+  module _ (lt : k < count) where
+    pub item_added : (x : Item) → Takes (any_item att) rest x after → IsWith x rest.place d d' → now' ≡ now ++ filter_map passed_in (x ∷ []) → Filled att from count (k + 1) d' old now' after
+    item_added (kept p) t w n = record {
+      offsets = f.offsets ++ rest.place ∷ [];
+      marks = w.1 f.offsets f.marks;
+      scanned = kept_more att from count k d.arrivals.props f.offsets (option_map object_of d.object) old now rest f.scanned lt p after d'.arrivals.props (f.offsets ++ rest.place ∷ []) (option_map object_of d'.object) now' t w.0 refl (ap (option_map object_of) w.2) n;
+    }
+    item_added (passed tag place) t w n = record {
+      offsets = f.offsets;
+      marks = subst (λ (c : Came). AreMarksOf c f.offsets) (sym w.0) f.marks;
+      scanned = passed_more att from count k d.arrivals.props f.offsets (option_map object_of d.object) old now rest f.scanned lt tag place after d'.arrivals.props f.offsets (option_map object_of d'.object) now' t (ap (λ (c : Came). c.props) w.0) refl (ap (option_map object_of) w.1) n;
+    }
+    item_added (carried place content) t w n = record {
+      offsets = f.offsets;
+      marks = subst (λ (c : Came). AreMarksOf c f.offsets) (sym w.0) f.marks;
+      scanned = carried_more att from count k d.arrivals.props f.offsets (option_map object_of d.object) old now rest f.scanned lt place content after d'.arrivals.props f.offsets (option_map object_of d'.object) now' t (ap (λ (c : Came). c.props) w.0) refl (ap (option_map object_of) w.1) w.2 n;
+    }
+
+    second_fails : (x : Item) → Takes (any_item att) rest x after → IsSecondObject x d → AreDifferent d.arrivals.props → (prop_list att).fails from.place from.bytes.now (DUPLICATE_LIST_PROPERTY, rest.place)
+    second_fails (kept p) t w e = absurd w
+    second_fails (passed tag place) t w e = absurd w
+    second_fails (carried place content) t w e = carried_double att from count k d.arrivals.props f.offsets (option_map object_of d.object) old now rest f.scanned lt place content after t (some_seen object_of d.object ∙ w) e
+
+    pub second_refuses : (x : Item) (s : Stop) → Takes (any_item att) rest x after → OnFault (λ h. (h ≡ (DUPLICATE_LIST_PROPERTY, rest.place)) × IsSecondObject x d) s → AreDifferent d.arrivals.props → Refuses (prop_list att) from s
+    second_refuses x s t p e =
+        on_fault (λ h. (h ≡ (DUPLICATE_LIST_PROPERTY, rest.place)) × IsSecondObject x d) ((prop_list att).fails from.place from.bytes.now)
+        (λ h w. subst (λ (i : ℕ × ℕ). (prop_list att).fails from.place from.bytes.now i) (sym w.0) (second_fails x t w.1 e)) s p
+
+-- the first double of the properties that came is a fault, where its mark says
+pub double_fails : (att : Bool) (from : Rest) (c : Came) (mark : ℕ) → DoublesFail att from c → ((offsets : List ℕ) → AreMarksOf c offsets → IsDoubleWith c.props offsets mark) → (prop_list att).fails from.place from.bytes.now (DUPLICATE_LIST_PROPERTY, mark)
+double_fails att from c mark f refused = by (refused f.offsets f.marks)
+  where
+    by : IsDoubleWith c.props f.offsets mark → (prop_list att).fails from.place from.bytes.now (DUPLICATE_LIST_PROPERTY, mark)
+    by d =
+        let there = f.fail d.place d.first in
+        let same : Some there.offset ≡ Some mark = sym there.here ∙ d.here in
+        let e : there.offset ≡ mark = cc in
+        subst (λ (n : ℕ). (prop_list att).fails from.place from.bytes.now (DUPLICATE_LIST_PROPERTY, n)) e there.fault

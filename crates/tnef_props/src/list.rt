@@ -7,7 +7,7 @@ ghost use Rattle.carrier_io.specs.Reasons.{fault_of};
 ghost use Rattle.carrier_model.specs.Grammar.{Means};
 ghost use Rattle.carrier_model.specs.Reasons.{DUPLICATE_LIST_PROPERTY};
 ghost use Rattle.tnef_props.specs.ReadLists.{PassedAtFront, IsListOf, is_attachment};
-ghost use Rattle.tnef_props.specs.Scans.{IsEmpty, IsWith, IsSecondObject, IsCutShort, FirstDoubleFails, draft_seen};
+ghost use Rattle.tnef_props.specs.Scans.{IsEmpty, IsWith, IsSecondObject, DoublesFail, draft_seen};
 ghost use Rattle.prop_values.specs.Arrivals.{AreDifferent};
 ghost use Rattle.tnef_props.specs.Meaning.{item_of, object_of};
 ghost use Rattle.tnef_props.specs.Steps.{Takes, Refuses};
@@ -20,12 +20,14 @@ use carrier_io::{Fault, Passed, PassedList, Reason, Stop};
 use prop_values::{Arrivals, Part, Props, SettleEnd};
 use std::alloc::Global;
 
-/// What was read of a list, before it was looked at for doubles: the properties as they came, the offset of the tag of
-/// each, and the Object of an attachment.
+/// The bytes of the shortest property: a tag, and a value.
+const LEAST_PROPERTY: usize = 8;
+
+/// What was read of a list, before it was looked at for doubles: the properties as they came, each marked by the offset
+/// of its tag, and the Object of an attachment.
 #[derive(Drop)]
 struct Draft<'a> {
     arrivals: Arrivals<&'a [u8]>,
-    offsets: Vec<u64>,
     object: Option<Object<'a>>,
 }
 
@@ -45,7 +47,6 @@ impl<'a> Draft<'a> {
     {
         Draft {
             arrivals: Arrivals::new(alloc),
-            offsets: Vec::new(alloc),
             object: None,
         }
     }
@@ -55,13 +56,12 @@ impl<'a> Draft<'a> {
         ensures ok { OnOk result (IsWith (item_of item.entry) offset self.old self.new) }
         ensures passed { OnOk result (passed.new ≡ passed.old ++ filter_map lists.passed_in (item_of item.entry ∷ [])) }
         ensures fault { IfErr result (OnFault (λ g. (g ≡ (DUPLICATE_LIST_PROPERTY, offset)) × IsSecondObject (item_of item.entry) self.old)) }
-        ensures cut { OnErr result (IsCutShort self.old self.new) }
+        ensures same { OnErr result (self.new.arrivals ≡ self.old.arrivals) }
         ensures kept { OnErr result (passed.new ≡ passed.old) }
     {
         match item {
             Item::Kept(prop) => {
-                self.offsets.push(offset)?;
-                self.arrivals.push(prop)?;
+                self.arrivals.push(prop, offset)?;
             }
             Item::Passed { tag, offset } => {
                 passed.push(Passed {
@@ -91,12 +91,14 @@ fn scan<'a>(
     passed: &mut PassedList,
 ) -> Result<Rest<'a>, Stop>
     requires { IsEmpty draft.old }
-    ensures found { IfOk result (λ rest. (more : List (Bool × ℕ × ℕ)) × (AreDifferent draft.new.arrivals → Takes (lists.prop_list in_attachment) from.entry (draft_seen draft.new more) rest) × (passed.new ≡ passed.old ++ more)) }
-    ensures fault { IfErr result (λ stop. AreDifferent draft.new.arrivals → Refuses (lists.prop_list in_attachment) from.entry stop) }
-    ensures double { FirstDoubleFails in_attachment from.entry draft.new.arrivals draft.new.offsets.items }
+    ensures found { IfOk result (λ rest. (more : List (Bool × ℕ × ℕ)) × (AreDifferent draft.new.arrivals.props → Takes (lists.prop_list in_attachment) from.entry (draft_seen draft.new more) rest) × (passed.new ≡ passed.old ++ more)) }
+    ensures fault { IfErr result (λ stop. AreDifferent draft.new.arrivals.props → Refuses (lists.prop_list in_attachment) from.entry stop) }
+    ensures double { DoublesFail in_attachment from.entry draft.new.arrivals }
     ensures kept { PassedAtFront in_attachment from.entry.place from.entry.bytes.now passed.old passed.new }
 {
     let (count, mut rest) = word(from)?;
+    let most = rest.bytes.len() / LEAST_PROPERTY;
+    draft.arrivals.make_room(most.min(count as usize));
     for _k in 0..count {
         let (item, after) = any_item(alloc, rest, in_attachment)?;
         draft.add(item, rest.place, passed)?;
@@ -121,14 +123,10 @@ fn gather<'a>(
 {
     let mut draft = Draft::new(alloc);
     let scanned = scan(alloc, from, in_attachment, &mut draft, passed);
-    let Draft {
-        arrivals,
-        offsets,
-        object,
-    } = draft;
+    let Draft { arrivals, object } = draft;
     match arrivals.settle() {
         Ok(props) => Ok((props, object, scanned?)),
-        Err(SettleEnd::Duplicate(k)) => Err(Stop::Fault(double_at(offsets[k]))),
+        Err(SettleEnd::Duplicate(offset)) => Err(Stop::Fault(double_at(offset))),
         Err(SettleEnd::NoMemory) => Err(Stop::NoMemory),
     }
 }

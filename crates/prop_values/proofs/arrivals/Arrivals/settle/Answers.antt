@@ -1,24 +1,39 @@
-use Rattle.std.proofs.Common.{◌≡◌, ◌∙◌, [], subst, map, length, Some, None}
-use Rattle.carrier_model.specs.Sorted.{with_elements}
-use Rattle.carrier_model.specs.Values.{prop_cmp}
-use Rattle.prop_values.specs.Arrivals.{AreDifferent, IsFirstDouble, IsLeastDouble}
-use Rattle.prop_values.proofs.Doubles.{different, sorted_props, all_sorted, first_is}
+use Rattle.std.proofs.Common.{◌≡◌, ◌∙◌, length, rules, arith}
+use Rattle.carrier_model.specs.Keys.{id}
+use Rattle.carrier_model.specs.Values.{Prop, with_pair}
+use Rattle.prop_values.specs.Arrivals.{AreOrdered, IsFirstDouble}
+use Rattle.prop_values.proofs.Arriving.{nothing_in, in_order, settled_in_order, double_past, double_marked, arranged, arranged_sorted}
 use Rattle.prop_values.proofs.arrivals.Arrivals.settle.Goals as goal
-
-pub returns-in-Some-clause-refused : goal.returns-in-Some-clause-refused
-returns-in-Some-clause-refused g c =
-    let least : IsLeastDouble c.sorted_by_pair-list.result.items (λ a. a.prop) (λ a. a.place) (length c.sorted_by_pair-list.result.items) (Some c.in-Some.place) = rw c.deref.ensures.value at c.in-Some.ensures in
-    subst (λ ps. IsFirstDouble ps c.in-Some.place) c.self.view_is (first_is (λ a. a.prop) (λ a. a.place) c.self.inside.list.items c.sorted_by_pair-list.result.items c.self.invariant c.sorted_by_pair-list.ensures.permutation c.sorted_by_pair-list.ensures.sorted c.in-Some.place least)
 
 pub of_sorted-requires : goal.of_sorted-requires
 of_sorted-requires g c =
-    let least : IsLeastDouble c.sorted_by_pair-list.result.items (λ a. a.prop) (λ a. a.place) (length c.sorted_by_pair-list.result.items) None = rw c.deref.ensures.value at c.in-None.ensures in
-    rw c.in_ok-props_of-in-None.ensures (sorted_props (λ a. a.prop) (λ a. a.place) c.self.inside.list.items c.sorted_by_pair-list.result.items c.self.invariant c.sorted_by_pair-list.ensures.permutation c.sorted_by_pair-list.ensures.sorted least)
+    let none : length c.self.inside.marks.items ≡ 0 = search rules in
+    in_order c.self.inside.list.items c.self.inside.marks.items (nothing_in c.self.inside.marks.items none) c.self.invariant
 
-pub returns-in_ok-props_of-in-None-clause-settled : goal.returns-in_ok-props_of-in-None-clause-settled
-returns-in_ok-props_of-in-None-clause-settled g c =
-    let least : IsLeastDouble c.sorted_by_pair-list.result.items (λ a. a.prop) (λ a. a.place) (length c.sorted_by_pair-list.result.items) None = rw c.deref.ensures.value at c.in-None.ensures in
-    let sorted : map (λ a. a.prop) c.sorted_by_pair-list.result.items ≡ with_elements prop_cmp [] (map (λ a. a.prop) c.self.inside.list.items) = all_sorted (λ a. a.prop) (λ a. a.place) c.self.inside.list.items c.sorted_by_pair-list.result.items c.self.invariant c.sorted_by_pair-list.ensures.permutation c.sorted_by_pair-list.ensures.sorted least in (
-      c.of_sorted.ensures ∙ (c.in_ok-props_of-in-None.ensures ∙ subst (λ ps. map (λ a. a.prop) c.sorted_by_pair-list.result.items ≡ with_elements prop_cmp [] ps) c.self.view_is sorted),
-      subst AreDifferent c.self.view_is (different (λ a. a.prop) (λ a. a.place) c.self.inside.list.items c.sorted_by_pair-list.result.items c.self.invariant c.sorted_by_pair-list.ensures.permutation c.sorted_by_pair-list.ensures.sorted least),
-    )
+pub returns-then-is_empty-clause-settled : goal.returns-then-is_empty-clause-settled
+returns-then-is_empty-clause-settled g c =
+    let none : length c.self.inside.marks.items ≡ 0 = search rules in
+    let s = settled_in_order c.self.inside.list.items (in_order c.self.inside.list.items c.self.inside.marks.items (nothing_in c.self.inside.marks.items none) c.self.invariant) in
+    rw (← c.self.view_is) (c.of_sorted.ensures ∙ s.0, s.1)
+
+pub overflow_sub-place : goal.overflow_sub-place
+overflow_sub-place g c =
+    let first : IsFirstDouble c.self.inside.list.items c.in-Double.place = rw (c.in-Double.is, c.deref.ensures.value) at c.in_ok-place.ensures in
+    omega (arith, double_past c.self.inside.list.items c.self.inside.marks.items c.in-Double.place c.self.invariant first)
+
+pub of_sorted-requires-in-Places : goal.of_sorted-requires-in-Places
+of_sorted-requires-in-Places g c =
+    let o : AreOrdered c.self.inside.list.items c.in-Places.places.items = rw (c.in-Places.is, c.deref.ensures.value) at c.in_ok-place.ensures in
+    let d : Prop = with_pair (id 0) 0 in
+    arranged_sorted c.self.inside.list.items _ (arranged c.self.inside.list.items c.arrange.new.list _ c.in-Places.places.items c.self.inside.list.len d o (rw c.deref_mut.ensures.value at (c.in_ok-arrange-in-Places.ensures d)) (omega arith)) o.different
+
+pub returns-in-Double-clause-refused : goal.returns-in-Double-clause-refused
+returns-in-Double-clause-refused g c =
+    let first : IsFirstDouble c.self.inside.list.items c.in-Double.place = rw (c.in-Double.is, c.deref.ensures.value) at c.in_ok-place.ensures in
+    rw (← c.self.view_is) (λ all a. rw c.index.ensures (double_marked c.self.inside.list.items c.self.inside.marks.items c.in-Double.place _ c.index.result.now c.self.invariant first (omega arith) all a))
+
+pub returns-in_ok-arrange-in-Places-clause-settled : goal.returns-in_ok-arrange-in-Places-clause-settled
+returns-in_ok-arrange-in-Places-clause-settled g c =
+    let o : AreOrdered c.self.inside.list.items c.in-Places.places.items = rw (c.in-Places.is, c.deref.ensures.value) at c.in_ok-place.ensures in
+    let d : Prop = with_pair (id 0) 0 in
+    rw (← c.self.view_is) (c.of_sorted-in-Places.ensures ∙ arranged c.self.inside.list.items c.arrange.new.list _ c.in-Places.places.items c.self.inside.list.len d o (rw c.deref_mut.ensures.value at (c.in_ok-arrange-in-Places.ensures d)) (omega arith), o.different)
