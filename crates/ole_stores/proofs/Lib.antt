@@ -1,4 +1,6 @@
 mod Children
 mod Made
+mod Members
 mod Sides
+mod StoreFiles
 mod WholeFiles

@@ -3,6 +3,11 @@
 
 mod reading;
 mod whole;
+mod writing;
 
 pub use reading::read_store;
 pub use whole::read_store_file;
+pub use writing::{add_store, store_plan};
+
+#[cfg(test)]
+mod writing_tests;

@@ -1,0 +1,42 @@
+use crate::writing::store_plan;
+use carrier_io::MemorySink;
+use msg_tree::{Member, Store};
+use std::test::*;
+
+/// A class of which no two bytes are equal.
+const CLASS: [u8; 16] = [0, 1, 2, 3, 4, 5, 6, 7, 8, 9, 10, 11, 12, 13, 14, 15];
+
+#[test]
+fn a_store_is_written(rt: HostRuntime) -> Result<(), Fail> {
+    let alloc = rt.alloc();
+    let mut inner = Store::new(alloc, [5; 16]);
+    let mut long = Vec::new(alloc);
+    long.resize(5000, b'x')?;
+    inner
+        .insert(&[98], Member::Stream(long))
+        .ok()
+        .ok_or("a place")?;
+    let mut store = Store::new(alloc, CLASS);
+    store
+        .insert(&[65, 66], Member::Storage(inner))
+        .ok()
+        .ok_or("a place")?;
+    let short = Vec::from_slice(alloc, b"abc")?;
+    store
+        .insert(&[97], Member::Stream(short))
+        .ok()
+        .ok_or("a place")?;
+    let plan = store_plan(alloc, &store).ok().ok_or("a plan")?;
+    assert_eq!(rt; plan.size(), 7680);
+    assert_eq!(rt; plan.sum(), 58811);
+    let mut sink = MemorySink::new(alloc, 7680, Vec::new(alloc))
+        .ok()
+        .ok_or("memory")?;
+    plan.write(&mut sink).ok().ok_or("room")?;
+    let bytes = sink.bytes();
+    assert_eq!(rt; bytes.get(1104..1120), Some(&CLASS[..]));
+    assert_eq!(rt; bytes.get(1360..1376), Some(&[5; 16][..]));
+    assert_eq!(rt; bytes.get(2048..2051), Some(&b"abc"[..]));
+    assert_eq!(rt; bytes.get(2560..2563), Some(&b"xxx"[..]));
+    Ok(())
+}
