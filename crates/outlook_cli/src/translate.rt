@@ -13,7 +13,7 @@ use crate::status::Status;
 use carrier_io::{Blob, Fault, PlanEnd, Reason, Sink, Stop, u32_at, write_gathered};
 use msg_tree::{Accepted, Limit, Tree, fits_tnef, names};
 use std::alloc::Global;
-use tnef_message::{TnefPlan, read_tnef};
+use tnef_message::{Held, TnefPlan, read_tnef};
 
 /// Whether the bytes begin as a compound file. [MS-CFB 2.2]
 fn is_compound(bytes: &[u8]) -> bool
@@ -37,7 +37,7 @@ fn refused(reason: Reason) -> Stop
 }
 
 /// The message that bytes in hand mean.
-fn accept<'a>(alloc: Global, bytes: &'a [u8]) -> Result<Accepted<&'a [u8]>, Stop>
+fn accept<'a>(alloc: Global, bytes: &'a [u8]) -> Result<Accepted<Held<'a>>, Stop>
     requires { length bytes.now ≤ MOST_BYTES }
     ensures { Reads meaning_in result (Accepts bytes.entry.now) (FaultOf bytes.entry.now) }
 {

@@ -1,104 +1,36 @@
--- A message in which at most so many levels may lie is no deeper.
-use Rattle.std.proofs.Common.{◌≡◌, ◌⊎◌, inl, inr, ℕ, zero, suc, ◌+◌, ◌≤◌, Bool, true, false, List, [], ◌∷◌, ◌++◌, map, Option, Some, None, Err, refl, sym, ap, subst, ◌∙◌, arith}
-use Rattle.std.specs.Prelude.{All, zip, filter, not, take_while, if◌then◌else◌, ◌==◌, ◌||◌}
-use Rattle.std.specs.List.{prefix_len}
-use Rattle.std.proofs.lemmas.List.Elements.{All-nil, All-cons, All-head, All-tail, All-filter, All-take}
+-- A message that a stream carries is a tree: no deeper than it may be, and its stores are stores.
+use Rattle.std.proofs.Common.{◌≡◌, ℕ, ◌≤◌, ◌<◌, ◌⊎◌, inl, inr, List, length, Err, sym, subst, arith}
 use Rattle.carrier_io.specs.Reads.{MeansOnly, OnFault, Reads}
 use Rattle.carrier_io.specs.Reasons.{fault_of}
 use Rattle.carrier_io.specs.declared.reasons.Stop.{Stop}
 use Rattle.carrier_io.specs.declared.reasons.Stop.TheVariants as stops
 use Rattle.carrier_io.proofs.Sides.{reads_fault, reads_ok}
-use Rattle.tnef_model.proofs.TnefMessage.{message_exact}
-use Rattle.tnef_model.specs.Attributes.{Attr}
-use Rattle.carrier_model.specs.Grammar.{Form, Whole, choice}
-use Rattle.tnef_model.specs.LegacyAttributes.{MESSAGE_PROPS, RECIPIENTS, RENDERING, ATTACHMENT, is_message_id, is_attachment_id}
-use Rattle.tnef_model.specs.TnefLists.{PropList}
+use Rattle.carrier_model.specs.Bytes.{AllBytes}
 use Rattle.carrier_model.specs.Meanings.{Meaning, Passed}
-use Rattle.tnef_model.specs.TnefMessage.{Part, Read, content, inner_of, with_inner, body_in, or_else, body_among, has_attr, attached_by, groups, AllStand, stream, message_within}
-use Rattle.carrier_model.specs.Tree.{Message, Body, nothing, embedded, depth, depth_in, depth_of_body, attachments_from}
-use Rattle.tnef_message.specs.Contents.{objects_at}
-use Rattle.tnef_message.proofs.Streams.{within_is}
+use Rattle.tnef_model.specs.TnefMessage.{message_within, TnefCarrier}
+use Rattle.carrier_model.specs.Tree.{Message, message, Attachments, no_more, attached, Body, nothing, embedded, stored, depth}
+use Rattle.carrier_model.specs.Trees.{HasPropLists, HavePropLists, BodyHasPropLists}
+use Rattle.tnef_model.proofs.ReadTnef.{carrier_is_tree}
+use Rattle.tnef_model.proofs.TnefMessage.{message_exact}
+use Rattle.msg_tree.specs.Keeping.{HasStores, HaveStores, BodyHasStores}
 
--- what a part embeds has at most so many levels
-abbrev pub Fits : ℕ → Part → Type 0
-Fits n p = depth_of_body (body_in p.gift) ≤ n
+mutual
+  has_stores : (t : Message) → HasPropLists t → HasStores t
+  has_stores (message props recipients attachments) h = have_stores attachments h.1.1
 
-one_of : (b : Bool) (f g : Form Part) (at : ℕ) (p : Part) (text : List ℕ) → (choice b f g).spells at p text → f.spells at p text ⊎ g.spells at p text
-one_of true f g at p text s = inl s
-one_of false f g at p text s = inr s
+  have_stores : (a : Attachments) → HavePropLists a → HaveStores a
+  have_stores no_more h = tt
+  have_stores (attached props body others) h = (body_has_stores body h.1.0, have_stores others h.1.1)
 
-without_body : (n : ℕ) (p q : Part) → p ≡ q → body_in q.gift ≡ nothing → Fits n p
-without_body n p q e f = subst (λ (b : Body). depth_of_body b ≤ n) (sym (ap (λ (z : Part). body_in z.gift) e ∙ f)) (omega arith)
+  body_has_stores : (b : Body) → BodyHasPropLists b → BodyHasStores b
+  body_has_stores nothing h = tt
+  body_has_stores (embedded inner) h = has_stores inner h
+  body_has_stores (stored store) h = h
 
-module _ (n : ℕ) (objects : Whole Meaning) (few : (m : Meaning) (at : ℕ) (bytes : List ℕ) → objects.means at bytes m → depth m.message + 1 ≤ n) where
-  inner_fits : (o : Option (ℕ × List ℕ)) (l : PropList) (m : Option Meaning) (at : ℕ) (text : List ℕ) → (inner_of objects o).spells at m text → Fits n (with_inner l m)
-  inner_fits None l None at text s = omega arith
-  inner_fits None l (Some m) at text s = absurd (other s.0)
-    where
-      other : Some m ≡ None → ⊥
-      other e = cc
-  inner_fits (Some x) l None at text s = omega arith
-  inner_fits (Some x) l (Some m) at text s =
-      let same : m ≡ s.x = inside s.second.0 in
-      subst (λ (z : Meaning). depth z.message + 1 ≤ n) (sym same) (few s.x x.0 x.1 s.first.0)
-    where
-      inside : {y : Meaning} → Some m ≡ Some y → m ≡ y
-      inside e = cc
-
-  content_fits : (a : Attr) (at : ℕ) (p : Part) (text : List ℕ) → (content objects a).spells at p text → Fits n p
-  unfolding content
-  content_fits a at p text s =
-      elim (one_of (a.id == MESSAGE_PROPS) _ _ at p text s) [
-        | inl x ↦ without_body n p _ x.second.0 refl
-        | inr s ↦ elim (one_of (a.id == RECIPIENTS) _ _ at p text s) [
-          | inl x ↦ without_body n p _ x.second.0 refl
-          | inr s ↦ elim (one_of (a.id == ATTACHMENT) _ _ at p text s) [
-            | inl x ↦ subst (Fits n) (sym x.second.second.0) (inner_fits x.x.object x.x x.second.x _ _ x.second.first)
-            | inr s ↦ elim (one_of (is_message_id a.id || is_attachment_id a.id) _ _ at p text s) [
-              | inl x ↦ without_body n p _ x.0 refl
-              | inr x ↦ without_body n p _ x.0 refl
-            ]
-          ]
-        ]
-      ]
-
-  abbrev pub ReadFits : Read → Type 0
-  ReadFits r = Fits n r.1
-
-  all_fit : (start l : List Attr) (ps : List Part) → AllStand objects start l ps → All ReadFits (zip l ps)
-  all_fit start [] [] s = All-nil ReadFits
-  all_fit start [] (p ∷ ps) s = absurd s
-  all_fit start (a ∷ l) [] s = absurd s
-  all_fit start (a ∷ l) (p ∷ ps) s = All-cons ReadFits (a, p) (zip l ps) (content_fits a (a.offset + 9) p s.0.means.1.text s.0.means.1.spelled) (all_fit (start ++ a ∷ []) l ps s.1)
-
-  among_fits : (reads : List Read) → All ReadFits reads → depth_of_body (body_among reads) ≤ n
-  among_fits [] h = omega arith
-  among_fits (r ∷ reads) h = by (body_in r.1.gift) (All-head ReadFits r reads h) (among_fits reads (All-tail ReadFits r reads h))
-    where
-      by : (b : Body) → depth_of_body b ≤ n → depth_of_body (body_among reads) ≤ n → depth_of_body (or_else b (body_among reads)) ≤ n
-      by nothing p q = q
-      by (embedded m) p q = p
-
-  groups_fit : (reads : List Read) → All ReadFits reads → depth_in (attachments_from (map attached_by (groups reads))) ≤ n
-  groups_fit [] h = omega arith
-  groups_fit (r ∷ reads) h = by (has_attr RENDERING r.0) (groups_fit reads (All-tail ReadFits r reads h))
-    where
-      first : depth_of_body (body_among (r ∷ take_while (λ o. not (has_attr RENDERING o.0)) reads)) ≤ n
-      first = among_fits (r ∷ take_while (λ o. not (has_attr RENDERING o.0)) reads) (All-cons ReadFits r (take_while (λ o. not (has_attr RENDERING o.0)) reads) (All-head ReadFits r reads h) (All-take ReadFits (prefix_len (λ o. not (has_attr RENDERING o.0)) reads) reads (All-tail ReadFits r reads h)))
-
-      by : (b : Bool) → depth_in (attachments_from (map attached_by (groups reads))) ≤ n → depth_in (attachments_from (map attached_by (if b then (r ∷ take_while (λ o. not (has_attr RENDERING o.0)) reads) ∷ groups reads else groups reads))) ≤ n
-      by true q = omega (arith, first, q)
-      by false q = q
-
-  stream_fits : (at : ℕ) (bytes : List ℕ) (m : Meaning) → (stream objects).means at bytes m → depth m.message ≤ n
-  stream_fits at bytes m s =
-      let reads = zip s.attrs s.parts in
-      let fit : All ReadFits (filter (λ r. is_attachment_id r.0.id) reads) = All-filter (λ (r : Read). is_attachment_id r.0.id) ReadFits reads (all_fit [] s.attrs s.parts s.stand) in
-      subst (λ (z : Meaning). depth z.message ≤ n) (sym s.meaning) (groups_fit (filter (λ r. is_attachment_id r.0.id) reads) fit)
-
-pub within_depth : (n at : ℕ) (bytes : List ℕ) (m : Meaning) → (message_within n).means at bytes m → depth m.message ≤ n
-within_depth zero at bytes m s = stream_fits zero (objects_at zero) (λ m at bytes h. absurd h.1) at bytes m (subst (λ (w : Whole Meaning). w.means at bytes m) (within_is zero) s)
-within_depth (suc n) at bytes m s = stream_fits (suc n) (objects_at (suc n)) (λ (m : Meaning) at bytes h. omega (arith, within_depth n _ _ m h.1)) at bytes m (subst (λ (w : Whole Meaning). w.means at bytes m) (within_is (suc n)) s)
+-- so it is never refused as a tree
+pub not_refused : (bytes : List ℕ) (t : Message) (passed : List Passed) → AllBytes bytes → length bytes ≤ 268435456 → TnefCarrier bytes t passed → ((32 < depth t) ⊎ (HasStores t → ⊥)) → ⊥
+not_refused bytes t passed all short means (inl deep) = omega (arith, deep, (carrier_is_tree bytes t passed all short means).levels)
+not_refused bytes t passed all short means (inr none) = none (has_stores t (carrier_is_tree bytes t passed all short means).lists)
 
 -- ---- both sides of the reader of a whole stream
 

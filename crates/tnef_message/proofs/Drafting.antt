@@ -9,9 +9,10 @@ use Rattle.tnef_model.specs.TnefMessage.{Read, Part, place_tests, attached_by, g
 use Rattle.carrier_model.specs.Trail.{Fault, first_fault}
 use Rattle.carrier_model.specs.Tree.{Attached, message, attachments_from}
 use Rattle.carrier_model.specs.Values.{Prop}
-use Rattle.msg_tree.specs.Meaning.{list_of}
+use Rattle.msg_tree.specs.Meaning.{list_of, body_of}
+use Rattle.tnef_message.specs.HeldBytes.{held_bytes}
 use Rattle.tnef_message.specs.Sections.{HasId, IsSection}
-use Rattle.tnef_message.specs.Drafts.{Fits, attrs_of, own_of, of_attachments, IsTable, OneOpen, IsAttached, IsDraft, body_of, plain_gift}
+use Rattle.tnef_message.specs.Drafts.{Fits, attrs_of, own_of, of_attachments, IsTable, OneOpen, IsAttached, IsDraft, plain_gift}
 use Rattle.tnef_message.specs.Entries.{Entered, IsFresh, OwnEntered, Opened, CurrentEntered, closed}
 use Rattle.tnef_message.specs.declared.gifts.Gift.{Gift}
 use Rattle.tnef_message.specs.declared.drafts.Pending.{Pending}
@@ -31,8 +32,8 @@ module _ (reads : List Read) (d e : Draft) (a : Attr) (p : Part) (g : Gift) (fit
       record {
         own = own_more reads (a, p) g fits given d.own.seen.items d.own.list d.own.derived.items e.own.seen.items e.own.list e.own.derived.items m here.own new en.seen en.derived en.list;
         table = own_table reads (a, p) g fits given d.own.seen.items d.recipients e.own.seen.items e.recipients m here.table new en.seen en.lists;
-        attached = subst (λ (z : Option Pending). IsAttached (reads ++ (a, p) ∷ []) (list_of (λ s. s.now) e.attachments) z) (sym en.current)
-            (subst (λ (z : List Attached). IsAttached (reads ++ (a, p) ∷ []) z d.current) (sym en.attachments) (attached_kept reads (a, p) (list_of (λ s. s.now) d.attachments) d.current at ren here.attached));
+        attached = subst (λ (z : Option Pending). IsAttached (reads ++ (a, p) ∷ []) (list_of held_bytes e.attachments) z) (sym en.current)
+            (subst (λ (z : List Attached). IsAttached (reads ++ (a, p) ∷ []) z d.current) (sym en.attachments) (attached_kept reads (a, p) (list_of held_bytes d.attachments) d.current at ren here.attached));
       }
 
   own_kept : is_message_id a.id ≡ false → e.own ≡ d.own → IsSection MESSAGE_PROPS (own_of (reads ++ (a, p) ∷ [])) e.own.seen.items e.own.list e.own.derived.items
@@ -50,9 +51,9 @@ module _ (reads : List Read) (d e : Draft) (a : Attr) (p : Part) (g : Gift) (fit
         attached = by e.current en.current;
       }
     where
-      by : (o : Option Pending) → IsSomeAnd o (λ q. (p : Pending) × IsFresh p × Entered a.id a.bytes g p q) → IsAttached (reads ++ (a, p) ∷ []) (list_of (λ s. s.now) e.attachments) o
+      by : (o : Option Pending) → IsSomeAnd o (λ q. (p : Pending) × IsFresh p × Entered a.id a.bytes g p q) → IsAttached (reads ++ (a, p) ∷ []) (list_of held_bytes e.attachments) o
       by None h = absurd h
-      by (Some q) h = opened reads (a, p) g fits given (list_of (λ s. s.now) e.attachments) h.0 q n h.1 h.2 (en.attachments ∙ closed_is reads (list_of (λ s. s.now) d.attachments) d.current here.attached)
+      by (Some q) h = opened reads (a, p) g fits given (list_of held_bytes e.attachments) h.0 q n h.1 h.2 (en.attachments ∙ closed_is reads (list_of held_bytes d.attachments) d.current here.attached)
 
   pub draft_current : is_message_id a.id ≡ false → is_attachment_id a.id ≡ true → (a.id == RENDERING) ≡ false → CurrentEntered a.id a.bytes g d e → IsDraft (reads ++ (a, p) ∷ []) e
   draft_current m at ren en = record {
@@ -61,17 +62,17 @@ module _ (reads : List Read) (d e : Draft) (a : Attr) (p : Part) (g : Gift) (fit
     attached = by d.current here.attached en.current;
   }
     where
-      two : (b : Pending) (o : Option Pending) → IsSomeAnd o (Entered a.id a.bytes g b) → OneOpen reads (list_of (λ s. s.now) d.attachments) b.section.seen.items b.section.list b.section.derived.items (body_of b.inner)
-          → IsAttached (reads ++ (a, p) ∷ []) (list_of (λ s. s.now) e.attachments) o
+      two : (b : Pending) (o : Option Pending) → IsSomeAnd o (Entered a.id a.bytes g b) → OneOpen reads (list_of held_bytes d.attachments) b.section.seen.items b.section.list b.section.derived.items (body_of held_bytes b.body)
+          → IsAttached (reads ++ (a, p) ∷ []) (list_of held_bytes e.attachments) o
       two b None h opened_at = absurd h
       two b (Some q) h opened_at =
-          let tests = attachment_tests reads a (list_of (λ s. s.now) d.attachments) b.section.seen.items b.section.list b.section.derived.items (body_of b.inner) _ m at ren opened_at refl in
+          let tests = attachment_tests reads a (list_of held_bytes d.attachments) b.section.seen.items b.section.list b.section.derived.items (body_of held_bytes b.body) _ m at ren opened_at refl in
           let new : list_any (λ n. n == a.id) b.section.seen.items ≡ false = not_refused (list_any (λ n. n == a.id) b.section.seen.items) (DOUBLE_ATTRIBUTE, a.offset) (sym tests ∙ passes) in
-          subst (λ (z : List Attached). OneOpen (reads ++ (a, p) ∷ []) z q.section.seen.items q.section.list q.section.derived.items (body_of q.inner)) (sym en.attachments)
-          (open_more reads (a, p) g fits given (list_of (λ s. s.now) d.attachments) b q at ren new h opened_at)
+          subst (λ (z : List Attached). OneOpen (reads ++ (a, p) ∷ []) z q.section.seen.items q.section.list q.section.derived.items (body_of held_bytes q.body)) (sym en.attachments)
+          (open_more reads (a, p) g fits given (list_of held_bytes d.attachments) b q at ren new h opened_at)
 
-      by : (o : Option Pending) → IsAttached reads (list_of (λ s. s.now) d.attachments) o → MatchOption o (Unit {0}) (λ p. IsSomeAnd e.current (Entered a.id a.bytes g p)) → IsAttached (reads ++ (a, p) ∷ []) (list_of (λ s. s.now) e.attachments) e.current
-      by None none h = absurd (refused (sym passes ∙ no_attachment reads a (list_of (λ s. s.now) d.attachments) at ren none))
+      by : (o : Option Pending) → IsAttached reads (list_of held_bytes d.attachments) o → MatchOption o (Unit {0}) (λ p. IsSomeAnd e.current (Entered a.id a.bytes g p)) → IsAttached (reads ++ (a, p) ∷ []) (list_of held_bytes e.attachments) e.current
+      by None none h = absurd (refused (sym passes ∙ no_attachment reads a (list_of held_bytes d.attachments) at ren none))
         where
           refused : {x : Fault} → None ≡ Some x → ⊥
           refused f = cc
@@ -81,7 +82,7 @@ module _ (reads : List Read) (d e : Draft) (a : Attr) (p : Part) (g : Gift) (fit
   draft_unknown m at ren = record {
     own = section_kept MESSAGE_PROPS reads (a, p) d.own.seen.items d.own.list d.own.derived.items m here.own;
     table = table_kept reads (a, p) d.own.seen.items d.recipients m here.table;
-    attached = attached_kept reads (a, p) (list_of (λ s. s.now) d.attachments) d.current at ren here.attached;
+    attached = attached_kept reads (a, p) (list_of held_bytes d.attachments) d.current at ren here.attached;
   }
 
 -- ---- what is known of the attachment that is being read
@@ -95,7 +96,7 @@ own_ids reads d h = subst (All HasId) (sym h.own.derived_are) (derived_ids (own_
 
 -- the message
 pub finished : (reads : List Read) (d : Draft) (props : List Prop) (lists : List (List Prop)) (attachments : List Attached) → IsDraft reads d → props ≡ joined d.own.list d.own.derived.items → lists ≡ d.recipients
-    → attachments ≡ list_of (λ s. s.now) d.attachments ++ closed d.current → message props lists (attachments_from attachments) ≡ message_by reads
+    → attachments ≡ list_of held_bytes d.attachments ++ closed d.current → message props lists (attachments_from attachments) ≡ message_by reads
 finished reads d props lists attachments h p l at =
-    let a : attachments ≡ map attached_by (groups (of_attachments reads)) = at ∙ closed_is reads (list_of (λ s. s.now) d.attachments) d.current h.attached in
+    let a : attachments ≡ map attached_by (groups (of_attachments reads)) = at ∙ closed_is reads (list_of held_bytes d.attachments) d.current h.attached in
     λ i. message ((p ∙ (λ j. joined (h.own.list_is j) (h.own.derived_are j))) i) ((l ∙ h.table.lists_are) i) (attachments_from (a i))

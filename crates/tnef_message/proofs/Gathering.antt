@@ -11,10 +11,12 @@ use Rattle.std.proofs.lemmas.Bool.{eqb-true}
 use Rattle.carrier_model.specs.Keys.{id}
 use Rattle.tnef_model.specs.LegacyAttributes.{Row, message_rows, attachment_rows, value_by, prop_by, legacy_prop, MESSAGE_PROPS, RECIPIENTS, RENDERING, ATTACHMENT, is_message_id, is_attachment_id}
 use Rattle.tnef_model.specs.TnefMessage.{Read, props_in, recipients_in, body_in, or_else, body_among, derived as derived_of, joined, beside, attached_by, groups}
-use Rattle.carrier_model.specs.Tree.{Attached, Body, nothing, embedded}
+use Rattle.carrier_model.specs.Tree.{Attached, Body, nothing, embedded, stored}
 use Rattle.carrier_model.specs.Values.{Value, Prop}
+use Rattle.msg_tree.specs.Meaning.{body_of}
+use Rattle.tnef_message.specs.HeldBytes.{held_bytes}
 use Rattle.tnef_message.specs.Sections.{HasId, IsSection}
-use Rattle.tnef_message.specs.Drafts.{Fits, begins, own_of, of_attachments, IsTable, IsBody, OneOpen, IsAttached, body_of, plain_gift}
+use Rattle.tnef_message.specs.Drafts.{Fits, begins, own_of, of_attachments, IsTable, IsBody, OneOpen, IsAttached, plain_gift}
 use Rattle.tnef_message.specs.Entries.{Entered, IsFresh, attached_as, body_after, closed, list_after, lists_after, own_after}
 use Rattle.tnef_message.specs.declared.gifts.Gift as rust
 use Rattle.tnef_message.specs.declared.gifts.Gift.TheVariants.{Nothing, MessageList, RecipientTable, AttachmentList}
@@ -76,10 +78,12 @@ table_more reads seen lists r seen' lists' t se le off = record {
 or_nothing : (b : Body) → or_else b nothing ≡ b
 or_nothing nothing = refl
 or_nothing (embedded inner) = refl
+or_nothing (stored store) = refl
 
 or_assoc : (a b c : Body) → or_else a (or_else b c) ≡ or_else (or_else a b) c
 or_assoc nothing b c = refl
 or_assoc (embedded inner) b c = refl
+or_assoc (stored store) b c = refl
 
 body_last : (reads : List Read) (r : Read) → body_among (reads ++ r ∷ []) ≡ or_else (body_among reads) (body_in r.1.gift)
 body_last [] r = or_nothing (body_in r.1.gift)
@@ -107,49 +111,49 @@ own_list : (n : ℕ) (g : rust.Gift) (list : List Prop) → Fits n g → is_mess
 own_list n Nothing list fits m none = sym (append-nil list)
 own_list n (MessageList props) list fits m none = ap (λ (z : List Prop). z ++ props) (sym (none fits))
 own_list n (RecipientTable lists) list fits m none = sym (append-nil list)
-own_list n (AttachmentList props inner) list fits m none = absurd (message_never n m fits)
+own_list n (AttachmentList props held) list fits m none = absurd (message_never n m fits)
 
 own_off : (n : ℕ) (g : rust.Gift) → Fits n g → is_message_id n ≡ true → (n == MESSAGE_PROPS) ≡ false → props_in (plain_gift g) ≡ []
 own_off n Nothing fits m off = refl
 own_off n (MessageList props) fits m off = absurd (same_never n MESSAGE_PROPS fits off)
 own_off n (RecipientTable lists) fits m off = refl
-own_off n (AttachmentList props inner) fits m off = absurd (message_never n m fits)
+own_off n (AttachmentList props held) fits m off = absurd (message_never n m fits)
 
 own_lists : (n : ℕ) (g : rust.Gift) (lists : List (List Prop)) → Fits n g → (n ≡ RECIPIENTS → lists ≡ []) → lists_after g lists ≡ lists ++ recipients_in (plain_gift g)
 own_lists n Nothing lists fits none = sym (append-nil lists)
 own_lists n (MessageList props) lists fits none = sym (append-nil lists)
 own_lists n (RecipientTable others) lists fits none = ap (λ (z : List (List Prop)). z ++ others) (sym (none fits))
-own_lists n (AttachmentList props inner) lists fits none = sym (append-nil lists)
+own_lists n (AttachmentList props held) lists fits none = sym (append-nil lists)
 
 lists_off : (n : ℕ) (g : rust.Gift) → Fits n g → (n == RECIPIENTS) ≡ false → recipients_in (plain_gift g) ≡ []
 lists_off n Nothing fits off = refl
 lists_off n (MessageList props) fits off = refl
 lists_off n (RecipientTable lists) fits off = absurd (same_never n RECIPIENTS fits off)
-lists_off n (AttachmentList props inner) fits off = refl
+lists_off n (AttachmentList props held) fits off = refl
 
 its_list : (n : ℕ) (g : rust.Gift) (list : List Prop) → Fits n g → is_attachment_id n ≡ true → (n ≡ ATTACHMENT → list ≡ []) → list_after g list ≡ list ++ props_in (plain_gift g)
 its_list n Nothing list fits m none = sym (append-nil list)
 its_list n (MessageList props) list fits m none = absurd (attachment_never n m fits)
 its_list n (RecipientTable lists) list fits m none = sym (append-nil list)
-its_list n (AttachmentList props inner) list fits m none = ap (λ (z : List Prop). z ++ props) (sym (none fits))
+its_list n (AttachmentList props held) list fits m none = ap (λ (z : List Prop). z ++ props) (sym (none fits))
 
 its_off : (n : ℕ) (g : rust.Gift) → Fits n g → is_attachment_id n ≡ true → (n == ATTACHMENT) ≡ false → props_in (plain_gift g) ≡ []
 its_off n Nothing fits m off = refl
 its_off n (MessageList props) fits m off = absurd (attachment_never n m fits)
 its_off n (RecipientTable lists) fits m off = refl
-its_off n (AttachmentList props inner) fits m off = absurd (same_never n ATTACHMENT fits off)
+its_off n (AttachmentList props held) fits m off = absurd (same_never n ATTACHMENT fits off)
 
 its_body : (n : ℕ) (g : rust.Gift) (body : Body) → Fits n g → (n ≡ ATTACHMENT → body ≡ nothing) → body_after g body ≡ or_else body (body_in (plain_gift g))
 its_body n Nothing body fits none = sym (or_nothing body)
 its_body n (MessageList props) body fits none = sym (or_nothing body)
 its_body n (RecipientTable lists) body fits none = sym (or_nothing body)
-its_body n (AttachmentList props inner) body fits none = ap (λ (z : Body). or_else z (body_of inner)) (sym (none fits))
+its_body n (AttachmentList props held) body fits none = ap (λ (z : Body). or_else z (body_of held_bytes held)) (sym (none fits))
 
 body_off : (n : ℕ) (g : rust.Gift) → Fits n g → (n == ATTACHMENT) ≡ false → body_in (plain_gift g) ≡ nothing
 body_off n Nothing fits off = refl
 body_off n (MessageList props) fits off = refl
 body_off n (RecipientTable lists) fits off = refl
-body_off n (AttachmentList props inner) fits off = absurd (same_never n ATTACHMENT fits off)
+body_off n (AttachmentList props held) fits off = absurd (same_never n ATTACHMENT fits off)
 
 -- ---- one attribute more
 
@@ -188,7 +192,7 @@ module _ (reads : List Read) (r : Read) (g : rust.Gift) (fits : Fits r.0.id g) (
       (λ off. ap body_in given ∙ body_off r.0.id g fits off)
 
   pub open_more : (done : List Attached) (p q : Pending) → is_attachment_id r.0.id ≡ true → begins r ≡ false → list_any (λ n. n == r.0.id) p.section.seen.items ≡ false → Entered r.0.id r.0.bytes g p q
-      → OneOpen reads done p.section.seen.items p.section.list p.section.derived.items (body_of p.inner) → OneOpen (reads ++ r ∷ []) done q.section.seen.items q.section.list q.section.derived.items (body_of q.inner)
+      → OneOpen reads done p.section.seen.items p.section.list p.section.derived.items (body_of held_bytes p.body) → OneOpen (reads ++ r ∷ []) done q.section.seen.items q.section.list q.section.derived.items (body_of held_bytes q.body)
   open_more done p q m goes new en o =
       let more : of_attachments (o.opening ∷ (o.others ++ r ∷ [])) ≡ of_attachments (o.opening ∷ o.others) ++ r ∷ [] = filter_in (λ (r : Read). is_attachment_id r.0.id) (o.opening ∷ o.others) r m in
       record {
@@ -200,11 +204,11 @@ module _ (reads : List Read) (r : Read) (g : rust.Gift) (fits : Fits r.0.id g) (
         goes_on = list_any-append begins o.others (r ∷ []) ∙ both_false (list_any begins o.others) (begins r || false) o.goes_on (both_false (begins r) false goes refl);
         done_are = o.done_are;
         section = subst (λ (z : List Read). IsSection ATTACHMENT z q.section.seen.items q.section.list q.section.derived.items) (sym more) (its_section (of_attachments (o.opening ∷ o.others)) p.section.seen.items p.section.list p.section.derived.items q.section.seen.items q.section.list q.section.derived.items m o.section new en.seen en.derived en.list);
-        inside = subst (λ (z : List Read). IsBody z q.section.seen.items (body_of q.inner)) (sym more) (its_inside (of_attachments (o.opening ∷ o.others)) p.section.seen.items (body_of p.inner) q.section.seen.items (body_of q.inner) o.inside new en.seen en.body);
+        inside = subst (λ (z : List Read). IsBody z q.section.seen.items (body_of held_bytes q.body)) (sym more) (its_inside (of_attachments (o.opening ∷ o.others)) p.section.seen.items (body_of held_bytes p.body) q.section.seen.items (body_of held_bytes q.body) o.inside new en.seen en.body);
       }
 
   pub opened : (done : List Attached) (p q : Pending) → r.0.id ≡ RENDERING → IsFresh p → Entered r.0.id r.0.bytes g p q → done ≡ map attached_by (groups (of_attachments reads))
-      → OneOpen (reads ++ r ∷ []) done q.section.seen.items q.section.list q.section.derived.items (body_of q.inner)
+      → OneOpen (reads ++ r ∷ []) done q.section.seen.items q.section.list q.section.derived.items (body_of held_bytes q.body)
   opened done p q n fresh en de =
       let m : is_attachment_id r.0.id ≡ true = subst (λ (z : ℕ). is_attachment_id z ≡ true) (sym n) refl in
       let group : of_attachments (r ∷ []) ≡ r ∷ [] = ap (λ (b : Bool). cond b (r ∷ []) []) m in
@@ -215,7 +219,7 @@ module _ (reads : List Read) (r : Read) (g : rust.Gift) (fits : Fits r.0.id g) (
         derived_are = fresh.derived;
         no_list = λ f. fresh.list;
       } in
-      let empty : IsBody [] p.section.seen.items (body_of p.inner) = record { body_is = fresh.body; no_body = λ f. fresh.body } in
+      let empty : IsBody [] p.section.seen.items (body_of held_bytes p.body) = record { body_is = fresh.body; no_body = λ f. fresh.body } in
       record {
         before = reads;
         opening = r;
@@ -225,7 +229,7 @@ module _ (reads : List Read) (r : Read) (g : rust.Gift) (fits : Fits r.0.id g) (
         goes_on = refl;
         done_are = de;
         section = subst (λ (z : List Read). IsSection ATTACHMENT z q.section.seen.items q.section.list q.section.derived.items) (sym group) (its_section [] p.section.seen.items p.section.list p.section.derived.items q.section.seen.items q.section.list q.section.derived.items m none new en.seen en.derived en.list);
-        inside = subst (λ (z : List Read). IsBody z q.section.seen.items (body_of q.inner)) (sym group) (its_inside [] p.section.seen.items (body_of p.inner) q.section.seen.items (body_of q.inner) empty new en.seen en.body);
+        inside = subst (λ (z : List Read). IsBody z q.section.seen.items (body_of held_bytes q.body)) (sym group) (its_inside [] p.section.seen.items (body_of held_bytes p.body) q.section.seen.items (body_of held_bytes q.body) empty new en.seen en.body);
       }
 
 -- an attribute of no attachment
@@ -246,7 +250,7 @@ attached_kept reads r done (Some p) m goes o =
       goes_on = list_any-append begins o.others (r ∷ []) ∙ both_false (list_any begins o.others) (begins r || false) o.goes_on (both_false (begins r) false goes refl);
       done_are = o.done_are;
       section = subst (λ (z : List Read). IsSection ATTACHMENT z p.section.seen.items p.section.list p.section.derived.items) same o.section;
-      inside = subst (λ (z : List Read). IsBody z p.section.seen.items (body_of p.inner)) same o.inside;
+      inside = subst (λ (z : List Read). IsBody z p.section.seen.items (body_of held_bytes p.body)) same o.inside;
     }
 
 -- an attribute that is not the message's own
@@ -258,7 +262,7 @@ table_kept reads r seen lists m t = subst (λ (z : List Read). IsTable z seen li
 
 -- ---- all attributes were read
 
-attached_is : (group : List Read) (p : Pending) → IsSection ATTACHMENT group p.section.seen.items p.section.list p.section.derived.items → IsBody group p.section.seen.items (body_of p.inner) → attached_as p.section.list p.section.derived.items (body_of p.inner) ≡ attached_by group
+attached_is : (group : List Read) (p : Pending) → IsSection ATTACHMENT group p.section.seen.items p.section.list p.section.derived.items → IsBody group p.section.seen.items (body_of held_bytes p.body) → attached_as p.section.list p.section.derived.items (body_of held_bytes p.body) ≡ attached_by group
 attached_is group p s b = λ i. (joined (s.list_is i) (beside (b.body_is i) (s.derived_are i)), b.body_is i)
 
 pub closed_is : (reads : List Read) (done : List Attached) (current : Option Pending) → IsAttached reads done current → done ++ closed current ≡ map attached_by (groups (of_attachments reads))

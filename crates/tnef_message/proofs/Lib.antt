@@ -1,8 +1,10 @@
+pub mod Bodies
 pub mod Depths
 pub mod Drafting
 pub mod Gathering
 pub mod Groups
 pub mod Joins
+pub mod ObjectMeanings
 pub mod Parts
 pub mod Placing
 pub mod StreamParts
@@ -10,3 +12,8 @@ pub mod NamesOfTree
 pub mod WrittenStreams
 pub mod Streams
 pub mod Tables
+pub mod BodyVariants
+pub mod FittingStores
+pub mod GatheredStores
+pub mod PlannedTrees
+pub mod StoreLists

@@ -1,17 +1,20 @@
 -- The parts of a stream, and how long they are.
-use Rattle.std.proofs.Common.{◌≡◌, ℕ, zero, suc, ◌+◌, ◌-◌, ◌<◌, ◌≤◌, ◌++◌, List, [], ◌∷◌, length, take, drop, take_all, length-drop, refl, sym, ap, ◌∙◌, append_assoc, length-append, arith}
+use Rattle.std.proofs.Common.{◌≡◌, ℕ, ◌+◌, ◌-◌, ◌<◌, ◌≤◌, ◌++◌, List, [], ◌∷◌, length, take, drop, take_all, length-drop, refl, sym, ap, ◌∙◌, append_assoc, length-append, arith}
 use Rattle.std.specs.List.{flat_map}
 use Rattle.std.specs.Prelude.{slice_get, Some}
-use Rattle.carrier_model.specs.Bytes.{le16, le32, sum16}
+use Rattle.carrier_model.specs.Bytes.{le16, sum16}
 use Rattle.carrier_model.specs.Keys.{Name, Key, id, named}
 use Rattle.tnef_model.specs.LegacyAttributes.{RECIPIENTS, ATTACHMENT}
-use Rattle.tnef_model.specs.TnefCanonical.{attribute, front, page_attribute, recipients_attribute, props_attribute, rendering_attribute, stream_of, attachments_bytes, prop_bytes, props_bytes, key_bytes, value_bytes}
+use Rattle.tnef_model.specs.TnefCanonical.{attribute, content_of, list_bytes, front, page_attribute, recipients_attribute, props_attribute, rendering_attribute, stream_of, attachments_bytes, prop_bytes, props_bytes, key_bytes, value_bytes}
+use Rattle.tnef_model.specs.TnefMessage.{IID_STORAGE}
+use Rattle.carrier_model.specs.FileTrees.{Store}
+use Rattle.carrier_model.specs.Stores.{store_bytes}
 use Rattle.carrier_model.specs.Totals.{capped}
-use Rattle.carrier_model.specs.Tree.{Attached, message, attachments_from}
+use Rattle.carrier_model.specs.Tree.{Attached, message, attachments_from, stored}
 use Rattle.carrier_model.specs.Values.{Prop, kind_of}
-use Rattle.tnef_message.specs.Written.{attached_list, attachment_bytes, own_bytes, list_alone, table_bytes}
+use Rattle.tnef_message.specs.Written.{attached_list, attachment_bytes, own_bytes, list_alone, table_bytes, carried_list}
 use Rattle.tnef_props.specs.Named.{between}
-use Rattle.tnef_props.proofs.Summed.{flat_map_parts}
+use Rattle.carrier_io.proofs.Summed.{flat_map_parts}
 
 pub attribute_length : (level n : ℕ) (content : List ℕ) → length (attribute level n content) ≡ 11 + length content
 attribute_length level n content = omega (arith, length-append content (le16 (sum16 content)))
@@ -78,3 +81,11 @@ behind from n xs e = take_all (n - from) (drop from xs) (omega (arith, e, length
 
 pub before : {A : Type 0} (to : ℕ) (xs : List A) → between 0 to xs ≡ take to xs
 before to xs = let e : to - 0 ≡ to = omega arith in ap (λ (k : ℕ). take k xs) e
+
+-- the value of an Object with a file in it
+pub storage_size : (file : List ℕ) (size whole : ℕ) → size ≡ capped (length file) → whole ≡ capped (size + 16) → capped (length (IID_STORAGE ++ file)) ≡ whole
+storage_size file size whole e h = omega (arith, e, h)
+
+-- the list of an attachment that holds a store with this file
+pub stored_list : (names : List Name) (x : Attached) (props : List Prop) (s : Store) (file : List ℕ) → x.0 ≡ props → x.1 ≡ stored s → file ≡ store_bytes s → attached_list names x ≡ carried_list names props (IID_STORAGE ++ file)
+stored_list names x props s file p e f = (λ i. list_bytes names (p i) (content_of names (e i))) ∙ ap (λ z. carried_list names props (IID_STORAGE ++ z)) (sym f)

@@ -14,9 +14,8 @@ use Rattle.carrier_model.specs.Items.{AllGood}
 use Rattle.carrier_model.specs.Grammar.{Form, Spans, Means, Whole, gives, and_then, inside}
 use Rattle.tnef_model.specs.LegacyAttributes.{ATTACHMENT}
 use Rattle.tnef_model.specs.TnefLists.{PropList, prop_list}
-use Rattle.carrier_model.specs.Meanings.{Meaning, Passed}
-use Rattle.tnef_model.specs.TnefMessage.{Part, Read, content, inner_of, with_inner, place_tests, Stands, AttrFails, AllStand, message_by, meaning_by, StreamMeans, MessageFails, stream, interface_tests, message_within}
-use Rattle.carrier_model.specs.Reasons.{TOO_DEEP}
+use Rattle.carrier_model.specs.Meanings.{Meaning, Held, Passed}
+use Rattle.tnef_model.specs.TnefMessage.{Part, Read, content, inner_of, with_inner, place_tests, Stands, AttrFails, AllStand, message_by, meaning_by, StreamMeans, MessageFails, stream, message_within}
 use Rattle.carrier_model.specs.Trail.{Fault, first_fault}
 use Rattle.carrier_model.specs.Tree.{Message}
 use Rattle.carrier_model.proofs.Messages.{taken_at}
@@ -35,7 +34,7 @@ within_is (suc n) = refl
 
 -- ---- attributes that stand
 
-pub all_more : (objects : Whole Meaning) (start l : List Attr) (ps : List Part) (a : Attr) (p : Part) → AllStand objects start l ps → Stands objects (start ++ l) a p → AllStand objects start (l ++ a ∷ []) (ps ++ p ∷ [])
+pub all_more : (objects : Whole Held) (start l : List Attr) (ps : List Part) (a : Attr) (p : Part) → AllStand objects start l ps → Stands objects (start ++ l) a p → AllStand objects start (l ++ a ∷ []) (ps ++ p ∷ [])
 all_more objects start [] [] a p s t = (subst (λ (z : List Attr). Stands objects z a p) (append-nil start) t, tt)
 all_more objects start [] (q ∷ ps) a p s t = absurd s
 all_more objects start (b ∷ l) [] a p s t = absurd s
@@ -116,23 +115,9 @@ attr_within at bytes l k a there e =
     let len : length bytes ≡ 6 + length (flat_map spelling l) = ap length there.parts ∙ omega (arith, there.key_len, length-append there.key (flat_map spelling l)) in
     good_within (at + 6) (at + length bytes) l k a there.good (omega arith) e
 
--- ---- Objects
-
-pub object_means : (levels n at : ℕ) (bytes : List ℕ) (m : Meaning) → levels ≡ suc n → first_fault (interface_tests at bytes) ≡ None → (message_within n).means (at + 16) (drop 16 bytes) m → (objects_at levels).means at bytes m
-object_means levels n at bytes m e t p = subst (λ (z : ℕ). (objects_at z).means at bytes m) (sym e) (t, p)
-
-pub object_fails : (levels n at : ℕ) (bytes : List ℕ) (g : Fault) → levels ≡ suc n → first_fault (interface_tests at bytes) ≡ None → (message_within n).fails (at + 16) (drop 16 bytes) g → (objects_at levels).fails at bytes g
-object_fails levels n at bytes g e t p = subst (λ (z : ℕ). (objects_at z).fails at bytes g) (sym e) (inr (t, p))
-
-pub object_deep : (levels at : ℕ) (bytes : List ℕ) → levels ≡ 0 → first_fault (interface_tests at bytes) ≡ None → (objects_at levels).fails at bytes (TOO_DEEP, at)
-object_deep levels at bytes e t = subst (λ (z : ℕ). (objects_at z).fails at bytes (TOO_DEEP, at)) (sym e) (inr (t, refl))
-
-pub object_other : (levels at : ℕ) (bytes : List ℕ) (g : Fault) → first_fault (interface_tests at bytes) ≡ Some g → (objects_at levels).fails at bytes g
-object_other levels at bytes g t = inl t
-
 -- ---- the list of an attachment
 
-module _ (objects : Whole Meaning) (a : Attr) (here : a.id ≡ ATTACHMENT) where
+module _ (objects : Whole Held) (a : Attr) (here : a.id ≡ ATTACHMENT) where
   form : Form Part
   form = and_then (prop_list true) (λ l. and_then (inner_of objects l.object) (λ m. gives (with_inner l m)))
 
@@ -149,7 +134,7 @@ module _ (objects : Whole Meaning) (a : Attr) (here : a.id ≡ ATTACHMENT) where
       let there : (prop_list true).fails (a.offset + 9) a.bytes g = subst (λ (n : ℕ). (prop_list true).fails n a.bytes g) (add-zero (a.offset + 9)) p in
       subst (λ (z : Form Part). z.fails (a.offset + 9) a.bytes g) (sym is_form) (inl there)
 
-  inner_spans : (l : PropList) (m : Option Meaning) (after : ℕ) (rest : List ℕ) → Spans (inner_of objects l.object) after rest m after rest → Spans (prop_list true) (a.offset + 9 + 0) (drop 0 a.bytes) l after rest → Means (content objects a) (a.offset + 9) a.bytes (with_inner l m)
+  inner_spans : (l : PropList) (m : Option Held) (after : ℕ) (rest : List ℕ) → Spans (inner_of objects l.object) after rest m after rest → Spans (prop_list true) (a.offset + 9 + 0) (drop 0 a.bytes) l after rest → Means (content objects a) (a.offset + 9) a.bytes (with_inner l m)
   unfolding form
   inner_spans l m after rest i s =
       let next : Spans (and_then (inner_of objects l.object) (λ m. gives (with_inner l m))) after rest (with_inner l m) after rest = (continues_then (inner_of objects l.object) (λ m. gives (with_inner l m)) after rest m after rest i).ok (with_inner l m) after rest (spans_nothing (with_inner l m) after rest) in
@@ -159,12 +144,12 @@ module _ (objects : Whole Meaning) (a : Attr) (here : a.id ≡ ATTACHMENT) where
   pub without_object : (l : PropList) (after : ℕ) (rest : List ℕ) → l.object ≡ None → Spans (prop_list true) (a.offset + 9 + 0) (drop 0 a.bytes) l after rest → Means (content objects a) (a.offset + 9) a.bytes (with_inner l None)
   without_object l after rest e s = inner_spans l None after rest (subst (λ (o : Option (ℕ × List ℕ)). Spans (inner_of objects o) after rest None after rest) (sym e) (spans_nothing None after rest)) s
 
-  inside_spans : (x : ℕ × List ℕ) (m : Meaning) (after : ℕ) (rest : List ℕ) → objects.means x.0 x.1 m → Spans (inner_of objects (Some x)) after rest (Some m) after rest
+  inside_spans : (x : ℕ × List ℕ) (m : Held) (after : ℕ) (rest : List ℕ) → objects.means x.0 x.1 m → Spans (inner_of objects (Some x)) after rest (Some m) after rest
   inside_spans x m after rest h =
       let first : Spans (inside objects x.0 x.1) after rest m after rest = record { begins = record { text = []; parts = refl; spelled = (h, refl) }; place = refl } in
       (continues_then (inside objects x.0 x.1) (λ m. gives (Some m)) after rest m after rest first).ok (Some m) after rest (spans_nothing (Some m) after rest)
 
-  pub with_object : (l : PropList) (x : ℕ × List ℕ) (m : Meaning) (after : ℕ) (rest : List ℕ) → l.object ≡ Some x → objects.means x.0 x.1 m → Spans (prop_list true) (a.offset + 9 + 0) (drop 0 a.bytes) l after rest → Means (content objects a) (a.offset + 9) a.bytes (with_inner l (Some m))
+  pub with_object : (l : PropList) (x : ℕ × List ℕ) (m : Held) (after : ℕ) (rest : List ℕ) → l.object ≡ Some x → objects.means x.0 x.1 m → Spans (prop_list true) (a.offset + 9 + 0) (drop 0 a.bytes) l after rest → Means (content objects a) (a.offset + 9) a.bytes (with_inner l (Some m))
   with_object l x m after rest e h s = inner_spans l (Some m) after rest (subst (λ (o : Option (ℕ × List ℕ)). Spans (inner_of objects o) after rest (Some m) after rest) (sym e) (inside_spans x m after rest h)) s
 
   pub object_inside_fails : (l : PropList) (x : ℕ × List ℕ) (g : Fault) (after : ℕ) (rest : List ℕ) → l.object ≡ Some x → objects.fails x.0 x.1 g → Spans (prop_list true) (a.offset + 9 + 0) (drop 0 a.bytes) l after rest → (content objects a).fails (a.offset + 9) a.bytes g

@@ -1,24 +1,24 @@
 -- The parts of a stream as they are written one behind the other.
-use Rattle.std.proofs.Common.{◌≡◌, ℕ, zero, suc, ◌+◌, ◌-◌, ◌<◌, ◌≤◌, ◌%◌, ◌^◌, ◌++◌, List, [], ◌∷◌, Bool, true, false, Option, Some, None, Result, Ok, Err, length, take, drop, refl, sym, ap, subst, ◌∙◌, append_assoc, length-append, arith}
+use Rattle.std.proofs.Common.{◌≡◌, ℕ, ◌+◌, ◌%◌, ◌++◌, List, Bool, true, false, Option, Some, None, Result, Ok, Err, length, take, drop, refl, sym, ap, subst, ◌∙◌, append_assoc}
 use Rattle.std.specs.Prelude.{slice_get, unwrap_or, find, ◌==◌, ◌&&◌, replicate, if◌then◌else◌}
 use Rattle.std.specs.Option.{option_map}
 use Rattle.std.specs.Result.{IsErr}
 use Rattle.std.specs.List.{flat_map}
-use Rattle.std.proofs.lemmas.List.{append-nil}
 use Rattle.carrier_model.specs.Bytes.{le32, pad4}
 use Rattle.carrier_model.specs.Keys.{Name, is_id}
-use Rattle.tnef_model.specs.TnefCanonical.{integer_or, bits_in, list_bytes, object_bytes, props_bytes, stream_of}
-use Rattle.tnef_model.specs.TnefMessage.{IID_MESSAGE}
-use Rattle.carrier_model.specs.Values.{Prop, Value, number, guid, bytes, numbers, guids, parts, IsValue, kind_of}
+use Rattle.tnef_model.specs.TnefCanonical.{integer_or, bits_in, object_bytes, stream_of, tag_bytes}
+use Rattle.carrier_model.specs.Kinds.{OBJECT}
+use Rattle.carrier_model.specs.Values.{Prop, kind_of}
 use Rattle.carrier_model.proofs.Trees.{drop_at}
 use Rattle.carrier_model.specs.Tree as plain
 use Rattle.msg_tree.specs.Meaning.{tree_of, list_of}
 use Rattle.msg_tree.specs.declared.messages.Message.{Message, out-Message}
 use Rattle.msg_tree.proofs.Unrolled.{tree_out}
-use Rattle.tnef_message.specs.Written.{picked, interface_bytes, own_bytes, attachment_bytes}
+use Rattle.tnef_message.specs.Carried.{object_head}
+use Rattle.tnef_message.specs.Written.{picked, own_bytes, attachment_bytes}
 use Rattle.tnef_message.proofs.StreamParts.{stream_parts}
-use Rattle.tnef_props.specs.Summed.{Sums}
-use Rattle.tnef_props.proofs.Summed.{sums_both, sums_first, sums_second, flat_map_more, flat_map_parts}
+use Rattle.carrier_io.specs.Summed.{Sums}
+use Rattle.carrier_io.proofs.Summed.{sums_both, sums_first, sums_second, flat_map_more, flat_map_parts}
 
 pub integer_step : (m : List Prop) (k : ℕ) (p : Prop) (n other : ℕ) → slice_get m k ≡ Some p → integer_or (drop k m) n other ≡ unwrap_or (picked n p) (integer_or (drop (k + 1) m) n other)
 integer_step m k p n other at = ap (λ (l : List Prop). integer_or l n other) (drop_at m k p at) ∙ by (is_id n p.key && (kind_of p.value == 0x0003))
@@ -37,9 +37,9 @@ behind_stops {X} {E} {F} {G} {a} {b} {c} {n} {m} {l} {s} {r} {e} front f xs k x 
     subst (λ (z : List ℕ). Sums {E = G} a c n l r z) (append_assoc front (flat_map f (take k xs)) (f x ++ flat_map f (drop (k + 1) xs)) ∙ ap (λ (z : List ℕ). front ++ z) (sym (flat_map_parts f xs k x at)))
     (sums_second err p (sums_first {r = Err e} (flat_map f (drop (k + 1) xs)) refl q))
 
--- an Object, by what stands before the stream in it
-pub object_parts : (stream : List ℕ) (size pad : ℕ) → size ≡ 16 + length stream → pad4 size ≡ pad → object_bytes (IID_MESSAGE ++ stream) ≡ interface_bytes size ++ (stream ++ replicate pad 0)
-object_parts stream size pad e p = let s : size ≡ length (IID_MESSAGE ++ stream) = omega (arith, e) in rw (← p, s) refl
+-- an Object, by what stands before the rest of its value
+pub object_parts : (interface held : List ℕ) (size pad : ℕ) → size ≡ length (interface ++ held) → pad4 size ≡ pad → object_bytes (interface ++ held) ≡ object_head size interface ++ (held ++ replicate pad 0)
+object_parts interface held size pad e p = rw (← p, e) (ap (λ z. tag_bytes 0x3701 OBJECT ++ (le32 1 ++ (le32 (length (interface ++ held)) ++ z))) (append_assoc interface held (replicate (pad4 (length (interface ++ held))) 0)))
 
 pub sums_as : {E : Type 0} {a b : Option (List ℕ)} {n m : ℕ} {r : Result ℕ E} (x y : List ℕ) → x ≡ y → Sums {E = E} a b n m r x → Sums {E = E} a b n m r y
 sums_as {E} {a} {b} {n} {m} {r} x y e s = subst (λ (z : List ℕ). Sums {E = E} a b n m r z) e s

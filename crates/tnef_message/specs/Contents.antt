@@ -2,18 +2,19 @@
 use Rattle.std.specs.Prelude.{◌≡◌, ℕ, zero, suc, ◌+◌, ◌++◌, List}
 use Rattle.tnef_model.specs.Attributes.{Attr}
 use Rattle.carrier_model.specs.Grammar.{Means, Whole}
-use Rattle.carrier_model.specs.Meanings.{Meaning, Passed}
-use Rattle.tnef_model.specs.TnefMessage.{Part, content, too_deep, behind_interface, object_with, message_within}
+use Rattle.carrier_model.specs.Meanings.{Held, Passed, held_message}
+use Rattle.tnef_model.specs.TnefMessage.{Part, content, refused, behind_interface, object_with, message_within}
+use Rattle.carrier_model.specs.Reasons.{TOO_DEEP}
 use Rattle.carrier_model.specs.Trail.{Fault}
 use Rattle.tnef_message.specs.Drafts.{Fits, plain_gift}
 use Rattle.tnef_message.specs.declared.gifts.Gift.{Gift}
 
--- what an Object means, where so many levels may lie in its message, and none is left at 0
-abbrev pub inner_at : ℕ → Whole Meaning
-inner_at zero = too_deep
-inner_at (suc n) = behind_interface (message_within n)
+-- what an Object with a message means, where so many levels may lie in the message round it
+abbrev pub inner_at : ℕ → Whole Held
+inner_at zero = refused TOO_DEEP
+inner_at (suc n) = behind_interface held_message (message_within n)
 
-abbrev pub objects_at : ℕ → Whole Meaning
+abbrev pub objects_at : ℕ → Whole Held
 objects_at n = object_with (inner_at n)
 
 -- an attribute's bytes give a part, and what it passes over was added

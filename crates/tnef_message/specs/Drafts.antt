@@ -1,17 +1,14 @@
 -- A message as far as its attributes were read.
 use Rattle.std.specs.Prelude.{◌≡◌, ℕ, ◌==◌, Bool, true, false, List, [], ◌∷◌, ◌++◌, map, filter, Option, Some, None}
 use Rattle.std.specs.List.{flat_map, list_any}
-use Rattle.std.specs.declared.boxed.Box.{Box}
-use Rattle.std.specs.declared.alloc.Global.{Global}
-use Rattle.std.specs.Borrow.{Bor}
 use Rattle.tnef_model.specs.Attributes.{Attr}
 use Rattle.tnef_model.specs.LegacyAttributes.{MESSAGE_PROPS, RECIPIENTS, RENDERING, ATTACHMENT, is_message_id, is_attachment_id}
 use Rattle.tnef_model.specs.TnefMessage as plain
 use Rattle.tnef_model.specs.TnefMessage.{Read, Part, has_attr, attached_by, groups, recipients_in, body_among}
-use Rattle.carrier_model.specs.Tree.{Attached, Body, nothing, embedded}
+use Rattle.carrier_model.specs.Tree.{Attached, Body, nothing}
 use Rattle.carrier_model.specs.Values.{Prop}
-use Rattle.msg_tree.specs.declared.messages.Message.{Message}
-use Rattle.msg_tree.specs.Meaning.{tree_of, list_of}
+use Rattle.msg_tree.specs.Meaning.{list_of, body_of}
+use Rattle.tnef_message.specs.HeldBytes.{held_bytes}
 use Rattle.tnef_message.specs.declared.gifts.Gift.{Gift}
 use Rattle.tnef_message.specs.declared.gifts.Gift.TheVariants.{Nothing, MessageList, RecipientTable, AttachmentList}
 use Rattle.tnef_message.specs.declared.drafts.Pending.{Pending}
@@ -20,22 +17,18 @@ use Rattle.tnef_message.specs.Sections.{IsSection}
 
 -- ---- what an attribute gave
 
-abbrev pub body_of : Option (Box (Message (Bor (List ℕ))) Global) → Body
-body_of None = nothing
-body_of (Some inner) = embedded (tree_of (λ s. s.now) inner.value)
-
 abbrev pub plain_gift : Gift → plain.Gift
 plain_gift Nothing = plain.no_gift
 plain_gift (MessageList props) = plain.message_list props
 plain_gift (RecipientTable lists) = plain.recipients lists
-plain_gift (AttachmentList props inner) = plain.attachment props (body_of inner)
+plain_gift (AttachmentList props body) = plain.attachment props (body_of held_bytes body)
 
 -- only these attributes have lists
 abbrev pub Fits : ℕ → Gift → Type 0
 Fits n Nothing = Unit {0}
 Fits n (MessageList props) = n ≡ MESSAGE_PROPS
 Fits n (RecipientTable lists) = n ≡ RECIPIENTS
-Fits n (AttachmentList props inner) = n ≡ ATTACHMENT
+Fits n (AttachmentList props body) = n ≡ ATTACHMENT
 
 -- ---- attributes that were read
 
@@ -59,7 +52,7 @@ pub record IsTable (reads : List Read) (seen : List ℕ) (lists : List (List Pro
   pub lists_are : lists ≡ flat_map (λ r. recipients_in r.1.gift) reads
   pub no_lists : list_any (λ n. n == RECIPIENTS) seen ≡ false → lists ≡ []
 
--- what an attachment embeds, one attribute at most giving it
+-- what an attachment holds, one attribute at most giving it
 pub record IsBody (reads : List Read) (seen : List ℕ) (body : Body) : Type 0 where
   pub body_is : body ≡ body_among reads
   pub no_body : list_any (λ n. n == ATTACHMENT) seen ≡ false → body ≡ nothing
@@ -84,10 +77,10 @@ pub record OneOpen (reads : List Read) (done : List Attached) (seen : List ℕ) 
 
 abbrev pub IsAttached : List Read → List Attached → Option Pending → Type 0
 IsAttached reads done None = NoneYet reads done
-IsAttached reads done (Some p) = OneOpen reads done p.section.seen.items p.section.list p.section.derived.items (body_of p.inner)
+IsAttached reads done (Some p) = OneOpen reads done p.section.seen.items p.section.list p.section.derived.items (body_of held_bytes p.body)
 
 -- the attributes' own and their attachments, as far as they were read
 pub record IsDraft (reads : List Read) (d : Draft) : Type 0 where
   pub own : IsSection MESSAGE_PROPS (own_of reads) d.own.seen.items d.own.list d.own.derived.items
   pub table : IsTable (own_of reads) d.own.seen.items d.recipients
-  pub attached : IsAttached reads (list_of (λ s. s.now) d.attachments) d.current
+  pub attached : IsAttached reads (list_of held_bytes d.attachments) d.current

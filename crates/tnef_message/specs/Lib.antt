@@ -1,6 +1,8 @@
 pub mod Contents
 pub mod Drafts
 pub mod Entries
+pub mod HeldBytes
+pub mod Interfaces
 pub mod Roles
 pub mod Sections
 pub mod Streams
@@ -8,3 +10,6 @@ pub mod Views
 pub mod Written
 pub mod Plans
 pub mod PlanViews
+pub mod Carried
+pub mod Gathered
+pub mod TreeStores

@@ -7,9 +7,11 @@ use Rattle.carrier_model.specs.Bytes.{MOST_BYTES}
 use Rattle.tnef_model.specs.TnefCanonical.{tnef_of}
 use Rattle.carrier_model.specs.Totals.{capped}
 use Rattle.carrier_model.specs.Tree.{Message, names_of}
+use Rattle.tnef_message.specs.TreeStores.{stores_in, files_of}
 
-pub record IsPlanned (t : Message) (names : List Name) (size : ℕ) : Type 0 where
+pub record IsPlanned (t : Message) (names : List Name) (stores : List (List ℕ)) (size : ℕ) : Type 0 where
   pub names_are : names ≡ names_of t
+  pub stores_are : stores ≡ files_of (stores_in t)
   pub few : length names ≤ 32000
   pub size_is : size ≡ length (tnef_of t)
   pub fits : length (tnef_of t) ≤ MOST_BYTES

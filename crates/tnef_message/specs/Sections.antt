@@ -13,7 +13,7 @@ IsIdKey (named name) = ⊥
 abbrev pub HasId : Prop → Type 0
 HasId p = IsIdKey p.key
 
--- beside an embedded message there is no data
+-- beside a message or a store in an attachment there is no data
 abbrev pub beside_if : Bool → List Prop → List Prop
 beside_if true more = filter (λ p. not (is_id 0x3701 p.key)) more
 beside_if false more = more

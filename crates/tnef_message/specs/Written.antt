@@ -4,13 +4,11 @@ use Rattle.std.specs.List.{flat_map}
 use Rattle.carrier_model.specs.Bytes.{le32}
 use Rattle.carrier_model.specs.Keys.{Name, is_id}
 use Rattle.tnef_model.specs.LegacyAttributes.{ATTACHMENT}
-use Rattle.tnef_model.specs.TnefCanonical.{attribute, bits_in, stream_of, tag_bytes, content_of, front, list_bytes, page_attribute, props_attribute, recipients_attribute, rendering_attribute}
-use Rattle.carrier_model.specs.Kinds.{OBJECT}
-use Rattle.tnef_model.specs.TnefMessage.{IID_MESSAGE}
-use Rattle.carrier_model.specs.Tree.{Message, Attached}
+use Rattle.tnef_model.specs.TnefCanonical.{attribute, bits_in, content_of, front, list_bytes, page_attribute, props_attribute, recipients_attribute, rendering_attribute}
+use Rattle.carrier_model.specs.Tree.{Attached}
 use Rattle.carrier_model.specs.Values.{Prop, kind_of}
-use Rattle.tnef_message.specs.declared.filled.Content.{Content}
-use Rattle.tnef_message.specs.declared.filled.Content.TheVariants.{ListOf, Table}
+use Rattle.tnef_message.specs.declared.write_lists.ListContent.{ListContent}
+use Rattle.tnef_message.specs.declared.write_lists.ListContent.TheVariants.{ListOf, Table}
 use Rattle.tnef_props.specs.Named.{HasNames}
 
 -- the list of one attachment
@@ -37,22 +35,18 @@ list_alone names props = list_bytes names props None
 abbrev pub table_bytes : List Name → List (List Prop) → List ℕ
 table_bytes names recipients = le32 (length recipients) ++ flat_map (list_alone names) recipients
 
-abbrev pub content_bytes : {B : Type 0} → List Name → Content B → List ℕ
+abbrev pub content_bytes : {B : Type 0} → List Name → ListContent B → List ℕ
 content_bytes names (ListOf props) = list_alone names props.now
 content_bytes names (Table recipients) = table_bytes names recipients.now
 
 -- the names of its properties are among the names
-abbrev pub ContentIsNamed : {B : Type 0} → List Name → Content B → Type 0
+abbrev pub ContentIsNamed : {B : Type 0} → List Name → ListContent B → Type 0
 ContentIsNamed names (ListOf props) = HasNames names props.now
 ContentIsNamed names (Table recipients) = All (HasNames names) recipients.now
 
--- the list of an attachment with a message in it
-abbrev pub carried_list : List Name → List Prop → Message → List ℕ
-carried_list names props inner = list_bytes names props (Some (IID_MESSAGE ++ stream_of names inner))
-
--- what stands before the stream in an Object whose value has so many bytes
-abbrev pub interface_bytes : ℕ → List ℕ
-interface_bytes size = tag_bytes 0x3701 OBJECT ++ (le32 1 ++ (le32 size ++ IID_MESSAGE))
+-- the list of an attachment with an Object of this value in it
+abbrev pub carried_list : List Name → List Prop → List ℕ → List ℕ
+carried_list names props value = list_bytes names props (Some value)
 
 -- the number of a property that is the Integer32 of the id
 abbrev pub picked : ℕ → Prop → Option ℕ

@@ -9,6 +9,7 @@ ghost use Rattle.tnef_attributes.specs.Views.{view};
 ghost use Rattle.tnef_message.specs.Contents.{GivesPart, FailsPart};
 
 use crate::gifts::Gift;
+use crate::held::Held;
 use crate::roles::{MESSAGE_LIST, RECIPIENT_TABLE, Role, role_of};
 use carrier_io::{Fault, Passed, PassedList, Reason, Stop, u32_at};
 use msg_tree::Recipients;
@@ -23,7 +24,7 @@ fn recipients_in<'a>(
     bytes: &'a [u8],
     at: u64,
     passed: &mut PassedList,
-) -> Result<Recipients<&'a [u8]>, Stop>
+) -> Result<Recipients<Held<'a>>, Stop>
     requires { at + length bytes.now ≤ 268435456 }
     ensures found { IfOk result (λ r. (lists : List PropList) × Means recipient_lists at bytes.entry.now lists × (r ≡ map (λ l. l.props) lists) × (passed.new ≡ passed.old ++ flat_map (λ l. l.passed) lists)) }
     ensures fault { IfErr result (OnFault (recipient_lists.fails at bytes.entry.now)) }
@@ -39,7 +40,7 @@ fn recipients_in<'a>(
     let mut from = 4;
     for _k in 0..count {
         let list = read_list(alloc, bytes, from, at, Part::Recipient, passed)?;
-        recipients.push(list.props)?;
+        recipients.push(list.props.into_held()?)?;
         from = list.end;
     }
     Ok(recipients)
@@ -60,7 +61,7 @@ pub fn plain_gift<'a>(
     let at = attribute.offset + 9;
     if attribute.id == MESSAGE_LIST {
         let list = read_list(alloc, attribute.bytes, 0, at, Part::Top, passed)?;
-        return Ok(Gift::MessageList(list.props));
+        return Ok(Gift::MessageList(list.props.into_held()?));
     }
     if attribute.id == RECIPIENT_TABLE {
         return Ok(Gift::RecipientTable(recipients_in(alloc, attribute.bytes, at, passed)?));

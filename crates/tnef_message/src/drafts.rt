@@ -6,17 +6,19 @@ ghost use Rattle.carrier_model.specs.Reasons.{DOUBLE_ATTRIBUTE};
 ghost use Rattle.carrier_model.specs.Tree.{attachments_from, message};
 ghost use Rattle.carrier_model.specs.Trail.{first_fault};
 ghost use Rattle.tnef_model.specs.TnefMessage.{Read, Part, message_by, place_tests};
-ghost use Rattle.msg_tree.specs.Meaning.{tree_of, list_of, attached_of};
+ghost use Rattle.msg_tree.specs.Meaning.{tree_of, list_of, attached_of, body_of};
 ghost use Rattle.tnef_attributes.specs.Views.{view};
-ghost use Rattle.tnef_message.specs.Drafts.{Fits, IsDraft, attrs_of, body_of, plain_gift};
+ghost use Rattle.tnef_message.specs.Drafts.{Fits, IsDraft, attrs_of, plain_gift};
+ghost use Rattle.tnef_message.specs.HeldBytes.{held_bytes};
 ghost use Rattle.tnef_message.specs.Sections.{HasId};
-ghost use Rattle.tnef_message.specs.Entries.{CurrentEntered, Entered, IsFresh, Opened, OwnEntered, attached_as, closed};
+ghost use Rattle.tnef_message.specs.Entries.{CurrentEntered, Entered, IsFresh, Opened, OwnEntered, attached_as, closed, stands_for_data};
 
 use crate::gifts::Gift;
+use crate::held::Held;
 use crate::roles::{Role, role_of};
 use crate::sections::{Section, join};
 use carrier_io::{Fault, NoMemory, Reason};
-use msg_tree::{Attachment, Attachments, Message, Recipients};
+use msg_tree::{Attachment, Attachments, Body, Message, Recipients};
 use prop_values::Props;
 use std::alloc::Global;
 use std::mem;
@@ -26,7 +28,7 @@ use tnef_attributes::Attribute;
 #[derive(Drop)]
 pub struct Pending<'a> {
     pub section: Section<'a>,
-    pub inner: Option<Box<Message<&'a [u8]>>>,
+    pub body: Body<Held<'a>>,
 }
 
 impl<'a> Pending<'a> {
@@ -35,7 +37,7 @@ impl<'a> Pending<'a> {
     {
         Pending {
             section: Section::new(alloc),
-            inner: None,
+            body: Body::Plain,
         }
     }
 
@@ -46,9 +48,9 @@ impl<'a> Pending<'a> {
     {
         self.section.enter(attribute)?;
         match gift {
-            Gift::AttachmentList { props, inner } => {
+            Gift::AttachmentList { props, body } => {
                 self.section.set_list(props);
-                self.inner = inner;
+                let _old = mem::replace(&mut self.body, body);
             }
             Gift::Nothing => {}
             Gift::MessageList(_other) => {}
@@ -58,21 +60,27 @@ impl<'a> Pending<'a> {
     }
 
     /// The attachment, once all its attributes were read.
-    fn finish(self, alloc: Global) -> Result<Attachment<&'a [u8]>, NoMemory>
+    fn finish(self, alloc: Global) -> Result<Attachment<Held<'a>>, NoMemory>
         requires { All HasId self.section.derived.items }
-        ensures { IfOk result (λ a. attached_of (λ s. s.now) a ≡ attached_as self.entry.section.list self.entry.section.derived.items (body_of self.entry.inner)) }
+        ensures { IfOk result (λ a. attached_of held_bytes a ≡ attached_as self.entry.section.list self.entry.section.derived.items (body_of held_bytes self.entry.body)) }
     {
-        let Pending { section, inner } = self;
-        match inner {
-            Some(message) => Ok(Attachment {
-                props: join(alloc, section, true)?,
-                embedded: Some(message),
-            }),
-            None => Ok(Attachment {
-                props: join(alloc, section, false)?,
-                embedded: None,
-            }),
-        }
+        let Pending { section, body } = self;
+        let embeds = stands_for_data(&body);
+        Ok(Attachment {
+            props: join(alloc, section, embeds)?,
+            body,
+        })
+    }
+}
+
+/// Whether what an attachment holds stands for its data, as a message or a store does.
+fn stands_for_data(body: &Body<Held<'_>>) -> bool
+    ensures { result ≡ stands_for_data (body_of held_bytes body.now) }
+{
+    match body {
+        Body::Plain => false,
+        Body::Message(_) => true,
+        Body::Store(_) => true,
     }
 }
 
@@ -80,20 +88,20 @@ impl<'a> Pending<'a> {
 #[derive(Drop)]
 pub struct Draft<'a> {
     pub own: Section<'a>,
-    pub recipients: Recipients<&'a [u8]>,
+    pub recipients: Recipients<Held<'a>>,
     /// The attachments of which all attributes were read.
-    pub attachments: Attachments<&'a [u8]>,
+    pub attachments: Attachments<Held<'a>>,
     /// The attachment of which attributes are being read.
     pub current: Option<Pending<'a>>,
 }
 
 /// A message of its parts.
 fn message_of<'a>(
-    props: Props<&'a [u8]>,
-    recipients: Recipients<&'a [u8]>,
-    attachments: Attachments<&'a [u8]>,
-) -> Message<&'a [u8]>
-    ensures { tree_of (λ s. s.now) result ≡ message props.entry recipients.entry (attachments_from (list_of (λ s. s.now) attachments.entry)) }
+    props: Props<Held<'a>>,
+    recipients: Recipients<Held<'a>>,
+    attachments: Attachments<Held<'a>>,
+) -> Message<Held<'a>>
+    ensures { tree_of held_bytes result ≡ message props.entry recipients.entry (attachments_from (list_of held_bytes attachments.entry)) }
 {
     Message {
         props,
@@ -160,7 +168,7 @@ impl<'a> Draft<'a> {
             Gift::Nothing => {}
             Gift::AttachmentList {
                 props: _props,
-                inner: _inner,
+                body: _body,
             } => {}
         }
         Ok(())
@@ -172,7 +180,7 @@ impl<'a> Draft<'a> {
         ensures own { OnOk result (self.new.own ≡ self.old.own) }
         ensures recipients { OnOk result (self.new.recipients ≡ self.old.recipients) }
         ensures current { OnOk result (self.new.current ≡ None) }
-        ensures attachments { OnOk result (list_of (λ s. s.now) self.new.attachments ≡ list_of (λ s. s.now) self.old.attachments ++ closed self.old.current) }
+        ensures attachments { OnOk result (list_of held_bytes self.new.attachments ≡ list_of held_bytes self.old.attachments ++ closed self.old.current) }
     {
         if let Some(pending) = self.current.take() {
             let attachment = pending.finish(alloc)?;
@@ -232,9 +240,9 @@ impl<'a> Draft<'a> {
     }
 
     /// The message, once all attributes were read.
-    pub fn finish(mut self, alloc: Global) -> Result<Message<&'a [u8]>, NoMemory>
+    pub fn finish(mut self, alloc: Global) -> Result<Message<Held<'a>>, NoMemory>
         requires { (reads : List Read) × IsDraft reads self }
-        ensures { IfOk result (λ t. (reads : List Read) → IsDraft reads self.entry → tree_of (λ s. s.now) t ≡ message_by reads) }
+        ensures { IfOk result (λ t. (reads : List Read) → IsDraft reads self.entry → tree_of held_bytes t ≡ message_by reads) }
     {
         self.close(alloc)?;
         let Draft {

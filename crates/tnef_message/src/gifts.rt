@@ -1,5 +1,6 @@
 //! What the bytes of an attribute give.
-use msg_tree::{Message, Recipients};
+use crate::held::Held;
+use msg_tree::{Body, Recipients};
 use prop_values::Props;
 
 /// What the bytes of an attribute give a message.
@@ -8,12 +9,12 @@ pub enum Gift<'a> {
     /// Nothing but the property that the attribute stands for by itself, if any.
     Nothing,
     /// The message's list.
-    MessageList(Props<&'a [u8]>),
+    MessageList(Props<Held<'a>>),
     /// The lists of the recipients.
-    RecipientTable(Recipients<&'a [u8]>),
-    /// The list of an attachment, and the message in it.
+    RecipientTable(Recipients<Held<'a>>),
+    /// The list of an attachment, and what its Object holds.
     AttachmentList {
-        props: Props<&'a [u8]>,
-        inner: Option<Box<Message<&'a [u8]>>>,
+        props: Props<Held<'a>>,
+        body: Body<Held<'a>>,
     },
 }

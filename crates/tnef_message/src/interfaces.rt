@@ -1,8 +1,9 @@
 //! The interfaces of Objects in attachments. [MS-OXTNEF 2.1.3.4.2]
-ghost use Rattle.std.specs.Prelude.{◌≡◌, ◌≤◌, IfOk, bytes_eq, length, take};
-ghost use Rattle.carrier_io.specs.Reasons.{refusal};
-ghost use Rattle.tnef_model.specs.TnefMessage.{interface_tests};
-ghost use Rattle.carrier_model.specs.Trail.{first_fault};
+ghost use Rattle.std.specs.Prelude.{◌≡◌, ◌≤◌, IfOk, IfErr, IsTrue, false, length};
+ghost use Rattle.carrier_io.specs.Reasons.{fault_of};
+ghost use Rattle.carrier_model.specs.Reasons.{BAD_INTERFACE};
+ghost use Rattle.tnef_model.specs.TnefMessage.{IID_MESSAGE, IID_STORAGE, has_id};
+ghost use Rattle.tnef_message.specs.Interfaces.{IsInterface};
 
 use carrier_io::{Fault, Reason};
 use tnef_props::Object;
@@ -15,10 +16,20 @@ const MESSAGE: [u8; 16] = [
     0x07, 0x03, 0x02, 0, 0, 0, 0, 0, 0xc0, 0, 0, 0, 0, 0, 0, 0x46,
 ];
 
+/// What stands behind an interface's id.
+#[derive(Clone, Copy)]
+pub enum Interface {
+    /// A TNEF stream.
+    Message,
+    /// A compound file.
+    Storage,
+}
+
 /// Whether bytes begin with an interface's id.
 fn has_interface(bytes: &[u8], id: &[u8]) -> bool
     requires { length id.now ≡ 16 }
-    ensures { result ≡ bytes_eq (take 16 bytes.now) id.now }
+    ensures id { result ≡ has_id id.now bytes.now }
+    ensures long { IsTrue result → 16 ≤ length bytes.now }
 {
     if bytes.len() < 16 {
         return false;
@@ -27,22 +38,21 @@ fn has_interface(bytes: &[u8], id: &[u8]) -> bool
     front == id
 }
 
-/// Tests that the Object of an attachment is a message.
-pub fn test_interface(object: &Object<'_>) -> Result<(), Fault>
-    ensures fault { first_fault (interface_tests object.now.offset object.now.bytes.now) ≡ refusal result }
-    ensures fits { IfOk result (λ _. 16 ≤ length object.now.bytes.now) }
+/// The interface of the Object of an attachment. BadInterface at its first byte where it is of neither.
+pub fn interface_of(object: &Object<'_>) -> Result<Interface, Fault>
+    ensures found { IfOk result (IsInterface object.now.bytes.now) }
+    ensures message { IfErr result (λ _. has_id IID_MESSAGE object.now.bytes.now ≡ false) }
+    ensures storage { IfErr result (λ _. has_id IID_STORAGE object.now.bytes.now ≡ false) }
+    ensures fault { IfErr result (λ g. fault_of g ≡ (BAD_INTERFACE, object.now.offset)) }
 {
+    if has_interface(object.bytes, &MESSAGE) {
+        return Ok(Interface::Message);
+    }
     if has_interface(object.bytes, &STORAGE) {
-        return Err(Fault {
-            reason: Reason::OleStorage,
-            offset: object.offset,
-        });
+        return Ok(Interface::Storage);
     }
-    if !has_interface(object.bytes, &MESSAGE) {
-        return Err(Fault {
-            reason: Reason::BadInterface,
-            offset: object.offset,
-        });
-    }
-    Ok(())
+    Err(Fault {
+        reason: Reason::BadInterface,
+        offset: object.offset,
+    })
 }

@@ -1,19 +1,26 @@
 //! Messages in TNEF streams, read and written.
 #![tactic(auto)]
 
-mod appending;
 mod contents;
 mod drafts;
-mod filled;
 mod gifts;
+mod held;
 mod interfaces;
+mod objects;
 mod plan;
 mod roles;
 mod sections;
-mod sizes;
-mod stream;
+mod store_counts;
+mod store_plans;
+mod store_sizes;
 mod whole;
+mod write_attributes;
+mod write_lists;
+mod write_message;
+mod write_objects;
+mod write_sizes;
 
+pub use held::Held;
 pub use plan::TnefPlan;
 pub use whole::read_tnef;
 
@@ -21,3 +28,5 @@ pub use whole::read_tnef;
 mod reading_tests;
 #[cfg(test)]
 mod tests;
+#[cfg(test)]
+mod writing_tests;

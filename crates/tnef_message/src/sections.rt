@@ -8,6 +8,7 @@ ghost use Rattle.tnef_model.specs.TnefMessage.{joined};
 ghost use Rattle.carrier_model.specs.Values.{prop_cmp};
 ghost use Rattle.tnef_message.specs.Sections.{HasId, beside_if, stays};
 
+use crate::held::Held;
 use carrier_io::NoMemory;
 use prop_names::Key;
 use prop_values::{InsertEnd, Prop, Props};
@@ -24,9 +25,9 @@ pub struct Section<'a> {
     /// The ids of the attributes. None is there twice, so there are never more than the table has.
     pub seen: Vec<u32>,
     /// The properties of the list.
-    pub list: Props<&'a [u8]>,
+    pub list: Props<Held<'a>>,
     /// The properties that the attributes stand for by themselves, in their order.
-    pub derived: Vec<Prop<&'a [u8]>>,
+    pub derived: Vec<Prop<Held<'a>>>,
 }
 
 impl<'a> Section<'a> {
@@ -58,13 +59,13 @@ impl<'a> Section<'a> {
     {
         self.seen.push(attribute.id)?;
         if let Some(prop) = legacy_prop(attribute) {
-            self.derived.push(prop)?;
+            self.derived.push(prop.into_held()?)?;
         }
         Ok(())
     }
 
     /// Puts a list in place of the one that is there.
-    pub fn set_list(&mut self, list: Props<&'a [u8]>)
+    pub fn set_list(&mut self, list: Props<Held<'a>>)
         ensures list { self.new.list ≡ list.entry }
         ensures seen { self.new.seen.items ≡ self.old.seen.items }
         ensures derived { self.new.derived.items ≡ self.old.derived.items }
@@ -73,8 +74,8 @@ impl<'a> Section<'a> {
     }
 }
 
-/// Whether a derived property stays beside a list; an embedded message stands for the attachment's data.
-fn is_new(prop: &Prop<&[u8]>, list: &Props<&[u8]>, embeds: bool) -> bool
+/// Whether a derived property stays beside a list; a message or a store in an attachment stands for its data.
+fn is_new(prop: &Prop<Held<'_>>, list: &Props<Held<'_>>, embeds: bool) -> bool
     requires { HasId prop.now }
     ensures { result ≡ stays embeds list.now prop.now }
 {
@@ -87,10 +88,10 @@ fn is_new(prop: &Prop<&[u8]>, list: &Props<&[u8]>, embeds: bool) -> bool
 /// The derived properties that stay beside the list.
 fn beside<'a>(
     alloc: Global,
-    derived: Vec<Prop<&'a [u8]>>,
-    list: &Props<&'a [u8]>,
+    derived: Vec<Prop<Held<'a>>>,
+    list: &Props<Held<'a>>,
     embeds: bool,
-) -> Result<Vec<Prop<&'a [u8]>>, NoMemory>
+) -> Result<Vec<Prop<Held<'a>>>, NoMemory>
     requires { All HasId derived.items }
     ensures { IfOk result (λ r. r.items ≡ filter (stays embeds list.now) derived.entry.items) }
 {
@@ -104,7 +105,7 @@ fn beside<'a>(
 }
 
 /// Puts a property into its place, unless one with its key and kind is there.
-fn add<'a>(props: &mut Props<&'a [u8]>, prop: Prop<&'a [u8]>) -> Result<(), NoMemory>
+fn add<'a>(props: &mut Props<Held<'a>>, prop: Prop<Held<'a>>) -> Result<(), NoMemory>
     ensures { OnOk result (props.new ≡ with_element prop_cmp props.old prop.entry) }
 {
     match props.insert_sorted(prop) {
@@ -116,9 +117,9 @@ fn add<'a>(props: &mut Props<&'a [u8]>, prop: Prop<&'a [u8]>) -> Result<(), NoMe
 
 /// The list with the properties in their places.
 fn with_all<'a>(
-    mut list: Props<&'a [u8]>,
-    props: Vec<Prop<&'a [u8]>>,
-) -> Result<Props<&'a [u8]>, NoMemory>
+    mut list: Props<Held<'a>>,
+    props: Vec<Prop<Held<'a>>>,
+) -> Result<Props<Held<'a>>, NoMemory>
     ensures { IfOk result (λ r. r ≡ with_elements prop_cmp list.entry props.entry.items) }
 {
     for prop in props {
@@ -128,12 +129,12 @@ fn with_all<'a>(
 }
 
 /// The list of a section, joined with the derived properties whose id it does not have. `embeds` says whether it is
-/// that of an attachment with a message.
+/// that of an attachment with a message or a store.
 pub fn join<'a>(
     alloc: Global,
     section: Section<'a>,
     embeds: bool,
-) -> Result<Props<&'a [u8]>, NoMemory>
+) -> Result<Props<Held<'a>>, NoMemory>
     requires { All HasId section.derived.items }
     ensures { IfOk result (λ r. r ≡ joined section.entry.list (beside_if embeds section.entry.derived.items)) }
 {

@@ -4,17 +4,19 @@ ghost use Rattle.carrier_io.specs.Reads.{OnFault, Reads};
 ghost use Rattle.tnef_model.specs.LegacyAttributes as plain;
 ghost use Rattle.tnef_model.specs.TnefMessage.{TnefCarrier, TnefFault, message_within};
 ghost use Rattle.tnef_attributes.specs.Views.{view};
-ghost use Rattle.tnef_message.specs.Contents.{FailsPart, GivesPart, objects_at};
-ghost use Rattle.tnef_message.specs.Streams.{GivesMessage, objects_fail, stream_fails};
+ghost use Rattle.tnef_message.specs.Contents.{FailsPart, GivesPart, inner_at, objects_at};
+ghost use Rattle.tnef_message.specs.Streams.{GivesBody, GivesMessage, inner_fails, objects_fail, stream_fails};
 ghost use Rattle.tnef_message.specs.Views.{meaning_in};
 
 use crate::contents::plain_gift;
 use crate::drafts::Draft;
 use crate::gifts::Gift;
-use crate::interfaces::test_interface;
+use crate::held::Held;
+use crate::interfaces::{Interface, interface_of};
+use crate::objects::store_in;
 use crate::roles::ATTACHMENT_LIST;
 use carrier_io::{Fault, PassedList, Reason, Stop};
-use msg_tree::{Accepted, Message, Tree};
+use msg_tree::{Accepted, Body, Message, Tree};
 use prop_values::Part;
 use std::alloc::Global;
 use tnef_attributes::{Attribute, Attributes};
@@ -32,7 +34,7 @@ fn message_at<'a>(
     at: u64,
     levels: u32,
     passed: &mut PassedList,
-) -> Result<Message<&'a [u8]>, Stop>
+) -> Result<Message<Held<'a>>, Stop>
     requires { at + length bytes.now ≤ 268435456 }
     ensures found { IfOk result (GivesMessage (message_within levels) at bytes.entry.now passed.old passed.new) }
     ensures fault { IfErr result (OnFault (stream_fails levels at bytes.entry.now)) }
@@ -68,7 +70,7 @@ fn gift_of<'a>(
     }
 }
 
-/// The list of an attachment, and the message in its Object.
+/// The list of an attachment, and what is in its Object.
 #[cycle(reading)]
 fn attachment_gift<'a>(
     alloc: Global,
@@ -88,31 +90,48 @@ fn attachment_gift<'a>(
         object,
         end: _,
     } = list;
+    let props = props.into_held()?;
     match object {
         Some(object) => {
-            let message = message_in(alloc, object, levels, passed)?;
-            let inner = Box::new(alloc, message)?;
-            Ok(Gift::AttachmentList {
-                props,
-                inner: Some(inner),
-            })
+            let body = body_in(alloc, object, levels, passed)?;
+            Ok(Gift::AttachmentList { props, body })
         }
-        None => Ok(Gift::AttachmentList { props, inner: None }),
+        None => Ok(Gift::AttachmentList {
+            props,
+            body: Body::Plain,
+        }),
     }
 }
 
-/// The message in the Object of an attachment.
+/// What is in the Object of an attachment.
+#[cycle(reading)]
+fn body_in<'a>(
+    alloc: Global,
+    object: Object<'a>,
+    levels: u32,
+    passed: &mut PassedList,
+) -> Result<Body<Held<'a>>, Stop>
+    ensures found { IfOk result (GivesBody (objects_at levels) object.entry.offset object.entry.bytes.now passed.old passed.new) }
+    ensures fault { IfErr result (OnFault (objects_fail levels object.entry.offset object.entry.bytes.now)) }
+{
+    match interface_of(&object)? {
+        Interface::Message => message_in(alloc, object, levels, passed),
+        Interface::Storage => Ok(Body::Store(store_in(alloc, object)?)),
+    }
+}
+
+/// The message behind an interface's id. TooDeep at the Object's first byte where no level is left.
 #[cycle(reading)]
 fn message_in<'a>(
     alloc: Global,
     object: Object<'a>,
     levels: u32,
     passed: &mut PassedList,
-) -> Result<Message<&'a [u8]>, Stop>
-    ensures found { IfOk result (GivesMessage (objects_at levels) object.entry.offset object.entry.bytes.now passed.old passed.new) }
-    ensures fault { IfErr result (OnFault (objects_fail levels object.entry.offset object.entry.bytes.now)) }
+) -> Result<Body<Held<'a>>, Stop>
+    requires { 16 ≤ length object.bytes.now }
+    ensures found { IfOk result (GivesBody (inner_at levels) object.entry.offset object.entry.bytes.now passed.old passed.new) }
+    ensures fault { IfErr result (OnFault (inner_fails levels object.entry.offset object.entry.bytes.now)) }
 {
-    test_interface(&object)?;
     if levels == 0 {
         return Err(Stop::Fault(Fault {
             reason: Reason::TooDeep,
@@ -120,12 +139,13 @@ fn message_in<'a>(
         }));
     }
     let (_, stream) = object.bytes.split_at(16);
-    message_at(alloc, stream, object.offset + 16, levels - 1, passed)
+    let message = message_at(alloc, stream, object.offset + 16, levels - 1, passed)?;
+    Ok(Body::Message(Box::new(alloc, message)?))
 }
 
 /// The message that a whole stream means, and what stands beside it, in reading order; or its first fault.
 /// [MS-OXTNEF 2.1.3]
-pub fn read_tnef<'a>(alloc: Global, bytes: &'a [u8]) -> Result<Accepted<&'a [u8]>, Stop>
+pub fn read_tnef<'a>(alloc: Global, bytes: &'a [u8]) -> Result<Accepted<Held<'a>>, Stop>
     requires { length bytes.now ≤ 268435456 }
     ensures { Reads meaning_in result (λ m. TnefCarrier bytes.entry.now m.message m.passed) (TnefFault bytes.entry.now) }
 {

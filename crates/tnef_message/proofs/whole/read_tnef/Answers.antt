@@ -3,7 +3,8 @@ use Rattle.std.proofs.lemmas.Result.{err_from_is_err_and}
 use Rattle.carrier_model.specs.Meanings.{Meaning}
 use Rattle.carrier_model.specs.Tree.{GREATEST_LEVEL}
 use Rattle.msg_tree.specs.Meaning.{tree_of}
-use Rattle.tnef_message.proofs.Depths.{within_depth, stream_given, stream_stop}
+use Rattle.tnef_message.specs.HeldBytes.{held_bytes}
+use Rattle.tnef_message.proofs.Depths.{not_refused, stream_given, stream_stop}
 use Rattle.tnef_message.proofs.whole.read_tnef.Goals as goal
 
 pub returns-in_err-message : goal.returns-in_err-message
@@ -13,10 +14,10 @@ returns-in_err-message c =
 
 pub unreachable-requires : goal.unreachable-requires
 unreachable-requires c =
-    let d = within_depth GREATEST_LEVEL 0 c.args.bytes.now _ c.in_ok-message.ensures.found.means in
-    omega (arith, d, c.in-Err.ensures.deep)
+    let found = c.in_ok-message.ensures.found in
+    not_refused c.args.bytes.now (tree_of held_bytes c.in_ok-message.message) found.more (λ i. omega (arith, c.type_inv.bytes i)) c.requires found.means c.in-Err.ensures.refused
 
 pub returns : goal.returns
 returns c =
     let found = c.in_ok-message.ensures.found in
-    stream_given GREATEST_LEVEL 0 c.args.bytes.now (tree_of (λ s. s.now) c.in_ok-message.message) _ found.more _ found.means c.in-Ok.ensures.kept (found.passed ∙ ap (λ z. z ++ found.more) c.new-passed.ensures)
+    stream_given GREATEST_LEVEL 0 c.args.bytes.now (tree_of held_bytes c.in_ok-message.message) _ found.more _ found.means c.in-Ok.ensures.kept (found.passed ∙ ap (λ z. z ++ found.more) c.new-passed.ensures)

@@ -1,6 +1,0 @@
-use Rattle.std.proofs.Common.{ℕ}
-use Rattle.std.proofs.lemmas.List.{take-replicate}
-use Rattle.tnef_message.proofs.appending.append_zeros.Goals as goal
-
-pub returns : goal.returns
-returns g c = rw (take-replicate {X = ℕ} c.args.count 4 0 c.requires) at c.append.ensures

@@ -1,0 +1,58 @@
+//! What the values of a message that was read are held in.
+use carrier_io::{Blob, Holds};
+use cfb_sectors::StreamView;
+
+/// Bytes of a TNEF stream that was read: of the stream itself, or of a stream of a compound file that lies in it. They
+/// stay in the input.
+#[derive(Drop)]
+pub enum Held<'a> {
+    /// Bytes of the stream.
+    Slice(&'a [u8]),
+    /// Bytes of a compound file's stream.
+    View(StreamView<'a>),
+}
+
+impl<'a> Blob for Held<'a> {
+    ghost use Rattle.tnef_message.specs.HeldBytes.{held_bytes, held_count, held_part, held_joins};
+
+    ghost bytes = { held_bytes };
+
+    ghost count = { held_count };
+
+    ghost part = { held_part };
+
+    ghost joins = { held_joins };
+
+    fn len(&self) -> usize {
+        match self {
+            Held::Slice(bytes) => bytes.len(),
+            Held::View(view) => view.len(),
+        }
+    }
+
+    fn pieces(&self) -> usize {
+        match self {
+            Held::Slice(_) => 1,
+            Held::View(view) => view.pieces(),
+        }
+    }
+
+    fn piece(&self, k: usize) -> &[u8] {
+        match self {
+            Held::Slice(bytes) => bytes,
+            Held::View(view) => view.slice(k),
+        }
+    }
+}
+
+impl<'a> Holds<&'a [u8]> for Held<'a> {
+    fn holding(bytes: &'a [u8]) -> Held<'a> {
+        Held::Slice(bytes)
+    }
+}
+
+impl<'a> Holds<StreamView<'a>> for Held<'a> {
+    fn holding(view: StreamView<'a>) -> Held<'a> {
+        Held::View(view)
+    }
+}
