@@ -5,8 +5,8 @@ use Rattle.carrier_model.specs.FileTrees as trees
 use Rattle.carrier_model.specs.FileTrees.{FileTree, Member, Named, bytes_at, store_at, and_files, files_from, files_listed, storage_depth}
 use Rattle.carrier_model.specs.Stores.{AreMembers}
 use Rattle.carrier_model.proofs.Messages.{taken_at}
-use Rattle.cfb_writer.specs.Grown.{grown, storages_in}
-use Rattle.cfb_writer.specs.Listed.{Child, Listed}
+use Rattle.cfb_list.specs.Grown.{grown, storages_in}
+use Rattle.cfb_list.specs.Listed.{Child, Listed}
 
 -- how deep what stands under a name is
 abbrev pub member_depth : Member → ℕ

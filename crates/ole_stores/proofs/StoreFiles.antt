@@ -5,8 +5,8 @@ use Rattle.carrier_io.specs.declared.failures.PlanEnd.{PlanEnd}
 use Rattle.carrier_model.specs.FileTrees.{FileTree, Store}
 use Rattle.carrier_model.specs.Layout.{layout, MESSAGE_CLASS}
 use Rattle.carrier_model.specs.Stores.{store_bytes}
-use Rattle.cfb_writer.specs.Grown.{grown}
-use Rattle.cfb_writer.specs.Listed.{Listed, tree_of}
+use Rattle.cfb_list.specs.Grown.{grown}
+use Rattle.cfb_list.specs.Listed.{Listed, tree_of}
 use Rattle.cfb_writer.specs.PlanEnds.{IsEndOf}
 use Rattle.cfb_writer.specs.Planned.{layout_of}
 

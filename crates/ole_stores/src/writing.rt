@@ -2,14 +2,13 @@
 ghost use Rattle.std.specs.Prelude.{◌≡◌, ◌<◌, ◌∷◌, [], length, OnOk, IfOk, IfErr};
 ghost use Rattle.carrier_model.specs.FileTrees.{files_from};
 ghost use Rattle.carrier_model.specs.Stores.{AreMembers, IsStore, store_bytes};
-ghost use Rattle.cfb_writer.specs.Grown.{grown};
+ghost use Rattle.cfb_list.specs.Grown.{grown};
 ghost use Rattle.cfb_writer.specs.PlanEnds.{IsEndOf};
 ghost use Rattle.msg_tree.specs.StoreMeaning.{store_of, member_of};
 
 use carrier_io::{Blob, NoMemory, PlanEnd};
-use cfb_writer::{
-    Content, FileList, Plan, Version, grown_lists_are_trees, sorted_lists_are_laid_out,
-};
+use cfb_list::{Content, FileList, grown_lists_are_trees};
+use cfb_writer::{Plan, Version, sorted_lists_are_laid_out};
 use msg_tree::{Member, Store};
 use std::alloc::Global;
 

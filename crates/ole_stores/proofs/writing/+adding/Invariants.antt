@@ -1,6 +1,6 @@
 use Rattle.std.proofs.Common.{◌≡◌, ◌+◌, ◌*◌, take}
 use Rattle.carrier_model.specs.FileTrees.{files_from, files_listed, storage_depth}
-use Rattle.cfb_writer.specs.Grown.{grown}
+use Rattle.cfb_list.specs.Grown.{grown}
 use Rattle.msg_tree.specs.StoreMeaning.{store_of, member_of}
 use Rattle.ole_stores.proofs.Members.{member_depth}
 use Rattle.ole_stores.proofs.writing.+adding.Given as goal
