@@ -4,6 +4,7 @@ pub mod HeaderList
 pub mod Least
 pub mod Levels
 pub mod Measures
+pub mod NameBytes
 pub mod Numbered
 pub mod PlanSizes
 pub mod Rooms

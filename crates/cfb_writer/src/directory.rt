@@ -1,5 +1,5 @@
 //! The directory.
-ghost use Rattle.std.specs.Prelude.{◌≡◌, ◌≤◌, ◌<◌, ◌+◌, ◌^◌, length};
+ghost use Rattle.std.specs.Prelude.{◌≡◌, ◌≤◌, ◌<◌, ◌+◌, ◌-◌, ◌*◌, ◌^◌, ◌++◌, length, replicate};
 ghost use Rattle.std.specs.List.{flat_map, range_with_len, AllByRecursion};
 ghost use Rattle.carrier_model.specs.Bytes.{le16};
 ghost use Rattle.carrier_model.specs.Layout as layout;
@@ -11,7 +11,7 @@ ghost use Rattle.cfb_writer.specs.Summed.{Sums};
 ghost use Rattle.cfb_writer.specs.Shares.{share_total};
 ghost use Rattle.cfb_writer.specs.Versions.{sector_of};
 
-use crate::appending::{append, append_parts, append_zeros};
+use crate::appending::append_parts;
 use cfb_list::{Content, Kind};
 use crate::entries::{Entries, Entry};
 use crate::header::start_or_end;
@@ -37,37 +37,31 @@ struct Fields {
     size: u32,
 }
 
-/// Appends units.
-fn append_units<W: Sink>(sink: &mut W, units: &[u16]) -> Result<u16, Failed>
-    ensures { Sums (W.held sink.old) (W.held sink.new) (W.faults sink.old) (W.faults sink.new) result (flat_map le16 units.now) }
-{
-    let mut sum = 0u16;
-    for unit in units {
-        sum = sum.wrapping_add(append(sink, &le16(*unit))?);
-    }
-    Ok(sum)
-}
-
-/// Appends a name with zeros up to 64 bytes, and its length with its null. [MS-CFB 2.6.1]
-fn append_name<W: Sink>(sink: &mut W, name: &[u16]) -> Result<u16, Failed>
+/// A name with zeros up to 64 bytes.
+fn name_bytes(name: &[u16]) -> [u8; 64]
     requires { length name.now ≤ 31 }
-    ensures { Sums (W.held sink.old) (W.held sink.new) (W.faults sink.old) (W.faults sink.new) result (layout.name_field name.now) }
+    ensures { result ≡ flat_map le16 name.now ++ replicate (64 - 2 * length name.now) 0 }
 {
-    let units = append_units(sink, name)?;
-    let zeros = append_zeros(sink, 64 - 2 * name.len() as u64)?;
-    let len = append(sink, &le16(2 * (name.len() as u16 + 1)))?;
-    Ok(units.wrapping_add(zeros.wrapping_add(len)))
+    let mut bytes = [0u8; 64];
+    for k in 0..name.len() {
+        let unit = le16(name[k]);
+        bytes[2 * k] = unit[0];
+        bytes[2 * k + 1] = unit[1];
+    }
+    bytes
 }
 
-/// Appends an entry.
+/// Appends an entry: its name with its length in bytes and its null, and its fields. All entries are black.
+/// [MS-CFB 2.6.1]
 fn append_fields<W: Sink>(sink: &mut W, name: &[u16], fields: &Fields) -> Result<u16, Failed>
     requires { length name.now ≤ 31 }
     ensures { Sums (W.held sink.old) (W.held sink.new) (W.faults sink.old) (W.faults sink.new) result (record_bytes name.now fields.now) }
 {
-    let field = append_name(sink, name)?;
-    let others = append_parts(
+    append_parts(
         sink,
         &[
+            &name_bytes(name),
+            &le16(2 * (name.len() as u16 + 1)),
             &[fields.kind, 1],
             &le32(fields.left),
             &le32(fields.right),
@@ -78,8 +72,7 @@ fn append_fields<W: Sink>(sink: &mut W, name: &[u16], fields: &Fields) -> Result
             &le32(fields.size),
             &[0; 4],
         ],
-    )?;
-    Ok(field.wrapping_add(others))
+    )
 }
 
 /// Where the next short stream begins in the mini stream, and the next long one in the file, in sectors.
