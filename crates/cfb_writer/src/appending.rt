@@ -5,8 +5,8 @@ ghost use Rattle.carrier_io.specs.Known.{joined};
 ghost use Rattle.cfb_list.specs.Contents.{content_bytes};
 ghost use Rattle.cfb_writer.specs.Summed.{Sums};
 
-use cfb_list::Content;
 use carrier_io::{Blob, Failed, Sink, write_pieces};
+use cfb_list::Content;
 
 /// The bytes of a piece of zeros.
 const PIECE: u64 = 512;

@@ -12,7 +12,6 @@ ghost use Rattle.cfb_writer.specs.Shares.{share_total};
 ghost use Rattle.cfb_writer.specs.Versions.{sector_of};
 
 use crate::appending::append_parts;
-use cfb_list::{Content, Kind};
 use crate::entries::{Entries, Entry};
 use crate::header::start_or_end;
 use crate::links::NO_LINK;
@@ -21,6 +20,7 @@ use crate::runs::END;
 use crate::streams::{Share, pieces_of};
 use crate::version::Version;
 use carrier_io::{Blob, Failed, Sink, le16, le32};
+use cfb_list::{Content, Kind};
 
 /// Root Entry.
 const ROOT_NAME: [u16; 10] = [82, 111, 111, 116, 32, 69, 110, 116, 114, 121];

@@ -1,10 +1,9 @@
 //! The entries of a directory.
 ghost use Rattle.std.specs.Prelude.{◌≡◌, ◌<◌, length, Some, All, slice_get};
 
-use cfb_list::File;
-use cfb_list::FileList;
 use crate::placing::Place;
 use carrier_io::Blob;
+use cfb_list::{File, FileList};
 use std::marker::Model;
 
 /// An entry: its file and its links.

@@ -10,11 +10,10 @@ ghost use Rattle.cfb_list.specs.Listed as listed;
 ghost use Rattle.cfb_writer.specs.Placed as placed;
 ghost use Rattle.cfb_list.specs.Trees.{inside};
 
-use cfb_list::Kind;
 use crate::links::{NO_LINK, append_links, top_of};
-use cfb_list::FileList;
 use crate::totals::Totals;
 use carrier_io::{Blob, NoMemory};
+use cfb_list::{FileList, Kind};
 use std::alloc::Global;
 
 /// An entry: where its file stands in the list, and its links.

@@ -1,6 +1,5 @@
 //! A compound file, planned and written.
 use crate::entries::Entries;
-use cfb_list::FileList;
 use crate::numbers::Numbers;
 use crate::parts::measured;
 use crate::plan_entries::entries_of;
@@ -8,6 +7,7 @@ use crate::totals::all_totals;
 use crate::version::Version;
 use crate::whole::append_file;
 use carrier_io::{Blob, Failed, PlanEnd, Sink, SureSink, Writing};
+use cfb_list::FileList;
 use std::alloc::Global;
 use std::marker::Model;
 

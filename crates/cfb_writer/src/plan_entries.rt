@@ -7,10 +7,10 @@ ghost use Rattle.cfb_writer.specs.Planned.{laid_of};
 ghost use Rattle.cfb_list.specs.Trees.{inside};
 
 use crate::entries::Entries;
-use cfb_list::FileList;
 use crate::placing::{append_level, level_of};
 use crate::totals::Totals;
 use carrier_io::{Blob, NoMemory};
+use cfb_list::FileList;
 use std::alloc::Global;
 
 /// The entries of a list whose storages are in order.

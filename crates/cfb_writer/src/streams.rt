@@ -9,10 +9,10 @@ ghost use Rattle.cfb_writer.specs.Shares as shares;
 ghost use Rattle.cfb_writer.specs.Summed.{Sums};
 
 use crate::appending::{append_content, append_zeros};
-use cfb_list::{Content, Kind};
 use crate::entries::Entries;
 use crate::runs::{Run, append_run};
 use carrier_io::{Blob, Failed, Sink};
+use cfb_list::{Content, Kind};
 
 /// Some of the streams.
 #[derive(Clone, Copy, Debug, PartialEq, Eq)]

@@ -8,10 +8,9 @@ ghost use Rattle.cfb_writer.specs.Totals.{totals_of, AreKnown};
 ghost use Rattle.cfb_list.specs.Trees.{inside, mini_pieces, long_pieces};
 ghost use Rattle.cfb_writer.specs.Versions.{sector_of};
 
-use cfb_list::{Content, Kind};
-use cfb_list::FileList;
 use crate::version::Version;
 use carrier_io::{Blob, NoMemory};
+use cfb_list::{Content, FileList, Kind};
 use std::alloc::Global;
 
 /// How many entries, mini sectors and sectors of streams of their own there are. A number above the greatest `u64` stays
