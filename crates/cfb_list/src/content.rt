@@ -6,7 +6,7 @@ ghost use Rattle.cfb_list.specs.Contents.{content_bytes, child_of};
 
 use carrier_io::Blob;
 
-/// The bytes of a stream.
+/// The bytes of a stream. [MS-CFB 2.6.1, 2.6.3]
 #[derive(Drop)]
 pub enum Content<'t, B: Blob> {
     /// Bytes of its own.

@@ -15,6 +15,10 @@ const MSG_CLASS: [u8; 16] = [
 ];
 
 /// Storages and streams, as they were added. The root has the number 0, and each other storage the next one.
+///
+/// Any list can be planned and written. Siblings with one name are written in the order in which they were added, but
+/// readers refuse such a file. [MS-CFB 2.6.4] Storages may lie in one another as deep as memory allows, but readers go 100
+/// deep.
 #[derive(Drop)]
 pub struct FileList<'t, B: Blob> {
     alloc: Global,
@@ -43,7 +47,7 @@ impl<'t, B: Blob> FileList<'t, B> {
     ghost use Rattle.cfb_list.specs.Trees.{inside};
     ghost use Rattle.carrier_model.specs.FileTrees.{sorted};
 
-    /// The root alone, with the class of a .msg file.
+    /// The root alone, with the class of a .msg file. NoMemory says that memory ran out. [MS-OXMSG 2.2, MS-CFB 2.6.2]
     pub fn new(alloc: Global) -> Result<FileList<'t, B>, NoMemory>
         ensures { IfOk result (λ list. list ≡ record { root_class = MESSAGE_CLASS; storages = [] ∷ [] }) }
     {
@@ -58,7 +62,7 @@ impl<'t, B: Blob> FileList<'t, B> {
         })
     }
 
-    /// Gives the root a class of 16 bytes. [MS-CFB 2.6.1]
+    /// Gives the root a class of 16 bytes, as they stand in the file. [MS-CFB 2.6.1]
     pub fn set_root_class(&mut self, class: [u8; 16])
         ensures { self.new ≡ record self.old { root_class = class } }
     {
@@ -138,7 +142,8 @@ impl<'t, B: Blob> FileList<'t, B> {
         self.storages.truncate(count);
     }
 
-    /// Adds a stream to a storage, by the units of its name. After NoMemory the list is unchanged. [MS-CFB 2.6.1]
+    /// Adds a stream to the storage with a number, by the UTF-16 units of its name. After NoMemory the list is unchanged.
+    /// [MS-CFB 2.6.1]
     pub fn add_named_stream(
         &mut self,
         parent: usize,
@@ -155,8 +160,8 @@ impl<'t, B: Blob> FileList<'t, B> {
         self.add(parent, File { name, kind })
     }
 
-    /// Adds a storage to another, by the units of its name, and answers its number. After NoMemory the list is
-    /// unchanged. [MS-CFB 2.6.1]
+    /// Adds a storage to that with a number, by the UTF-16 units of its name and a class of 16 bytes, and answers its
+    /// number. After NoMemory the list is unchanged. [MS-CFB 2.6.1]
     pub fn add_named_storage(
         &mut self,
         parent: usize,
@@ -182,7 +187,8 @@ impl<'t, B: Blob> FileList<'t, B> {
         }
     }
 
-    /// Adds a stream to a storage, by a name of ASCII characters. After NoMemory the list is unchanged.
+    /// Adds a stream to the storage with a number, by a name of ASCII characters. After NoMemory the list is unchanged.
+    /// [MS-CFB 2.6.1]
     pub fn add_stream(
         &mut self,
         parent: usize,
@@ -198,8 +204,8 @@ impl<'t, B: Blob> FileList<'t, B> {
         self.add_named_stream(parent, &units, content)
     }
 
-    /// Adds a storage without a class to another, by a name of ASCII characters, and answers its number. After NoMemory
-    /// the list is unchanged.
+    /// Adds a storage without a class to that with a number, by a name of ASCII characters, and answers its number. After
+    /// NoMemory the list is unchanged. [MS-CFB 2.6.1]
     pub fn add_storage(&mut self, parent: usize, name: &str) -> Result<usize, NoMemory>
         requires parent { parent < length self.old.storages }
         requires name { length name.now ≤ 31 }

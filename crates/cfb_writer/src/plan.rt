@@ -11,7 +11,7 @@ use cfb_list::FileList;
 use std::alloc::Global;
 use std::marker::Model;
 
-/// What will be written for a list. It keeps the list, and holds no output.
+/// What will be written for a list. It keeps the list, and holds no output. [MS-CFB 2.1]
 #[derive(Drop)]
 pub struct Plan<'t, B: Blob> {
     version: Version,
@@ -66,8 +66,8 @@ impl<'t, B: Blob> Plan<'t, B> {
         }
     }
 
-    /// A plan of a list. TooLarge says that its file has more bytes than an output may have, and how many; a number
-    /// above the greatest `u64` stays there.
+    /// A plan of a list, for sectors of 512 or 4,096 bytes. TooLarge says that its file has more than 268,435,456 bytes,
+    /// and how many; a number above the greatest `u64` stays there. NoMemory says that memory ran out.
     pub fn new(
         alloc: Global,
         version: Version,
@@ -86,7 +86,7 @@ impl<'t, B: Blob> Plan<'t, B> {
         Ok(Plan::of_parts(version, measure.numbers, entries, measure.size))
     }
 
-    /// How many bytes are written.
+    /// How many bytes are written: all sectors, with the header. [MS-CFB 2.2]
     pub fn size(&self) -> u64
         ensures { result ≡ length self.now }
     {
@@ -104,7 +104,7 @@ impl<'t, B: Blob> Plan<'t, B> {
         }
     }
 
-    /// The sum of the bytes modulo 65,536.
+    /// The sum of the bytes modulo 65,536, as it stands behind an attribute of a TNEF stream. [MS-OXTNEF 2.1.3]
     pub fn sum(&self) -> u16
         ensures { result ≡ sum16 self.now }
     {

@@ -10,4 +10,6 @@ pub use whole::read_store_file;
 pub use writing::{add_store, store_plan};
 
 #[cfg(test)]
+mod tests;
+#[cfg(test)]
 mod writing_tests;
