@@ -1,7 +1,9 @@
 ghost use Rattle.std.specs.Prelude.{◌<◌, ◌^◌, length};
 
 use crate::compare::{same_prop, same_props};
-use crate::{Arrivals, Guids, InsertEnd, Kind, Parts, Prop, Props, SettleEnd, Value, kind_of};
+use crate::{
+    Arrivals, Guids, InsertEnd, Kind, Parts, Prop, Props, SettleEnd, Shape, Value, kind_of,
+};
 use carrier_io::{Blob, same_bytes};
 use prop_names::{Guid, Key};
 use std::alloc::Global;
@@ -143,6 +145,14 @@ fn kinds(rt: HostRuntime) -> Result<(), Fail> {
     assert_eq!(rt; Kind::MultipleTime.number(), 0x1040);
     assert_eq!(rt; Kind::MultipleTime.name(), "MultipleTime");
     assert_eq!(rt; Kind::MultipleTime.width(), Some(8));
+    assert_eq!(rt; Kind::MultipleString.shape(), Shape::Parts(Kind::String));
+    assert_eq!(rt;
+        (
+            Kind::String.null_size(),
+            Kind::MultipleString8.part_null_size()
+        ),
+        (2, 1)
+    );
     assert_eq!(rt; Value::<Vec<u8>>::Guid(Guid([0; 16])).kind(), Kind::Guid);
     Ok(())
 }

@@ -1,6 +1,5 @@
 pub mod Meaning
 pub mod ReadLists
-pub mod Shapes
 pub mod Steps
 pub mod Written
 pub mod Named

@@ -9,7 +9,6 @@ mod object;
 mod object_places;
 mod ranges;
 mod rest;
-mod shapes;
 mod sizes;
 mod texts;
 mod values;

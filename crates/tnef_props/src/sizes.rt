@@ -11,8 +11,7 @@ ghost use Rattle.prop_values.specs.Meaning.{value_of};
 ghost use Rattle.prop_values.specs.Kinds.{kind_number};
 ghost use Rattle.tnef_props.specs.Written.{text_field, object_length};
 
-use crate::texts::null_size;
-use crate::writing_values::{is_wide, part_null_size};
+use crate::writing_values::is_wide;
 use carrier_io::{Blob, pad4};
 use prop_names::{Key, Name};
 use prop_values::{Kind, Parts, Prop, Props, Value};
@@ -63,10 +62,10 @@ fn value_size<B: Blob>(value: &Value<B>) -> u64
     match value {
         Value::Number { kind, .. } => numbers_size(*kind, 1),
         Value::Guid(_) => 16,
-        Value::Bytes { kind, bytes } => 4 + text_size(bytes.len(), null_size(*kind)),
+        Value::Bytes { kind, bytes } => 4 + text_size(bytes.len(), kind.null_size()),
         Value::Numbers { kind, list } => 4 + numbers_size(*kind, list.len()),
         Value::Guids(list) => 4 + 16 * list.len() as u64,
-        Value::Parts { kind, list } => texts_size(part_null_size(*kind), list).saturating_add(4),
+        Value::Parts { kind, list } => texts_size(kind.part_null_size(), list).saturating_add(4),
     }
 }
 

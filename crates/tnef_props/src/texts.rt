@@ -12,17 +12,6 @@ use carrier_io::{NoMemory, Stop, Units, u16_at};
 use prop_values::Kind;
 use std::alloc::Global;
 
-/// The bytes of a null at the end of a text of the kind.
-pub fn null_size(kind: Kind) -> usize
-    ensures { result ≡ kinds.null_of (kind_number kind) }
-{
-    match kind {
-        Kind::String8 => 1,
-        Kind::String => 2,
-        _ => 0,
-    }
-}
-
 /// Whether the size of a text of the kind is even.
 pub fn is_even(kind: Kind) -> bool
     ensures { result ≡ nat_eq (kind_number kind) 0x001F }
@@ -63,7 +52,7 @@ pub fn text<'a>(from: Rest<'a>, kind: Kind) -> Result<(&'a [u8], Rest<'a>), Stop
     ensures fault { IfErr result (Refuses (lists.text (kind_number kind)) from.entry) }
 {
     let (object, rest) = sized(from, is_even(kind), 0)?;
-    Ok((without_null(object.bytes, null_size(kind)), rest))
+    Ok((without_null(object.bytes, kind.null_size()), rest))
 }
 
 /// The units that bytes are.

@@ -6,16 +6,16 @@ ghost use Rattle.carrier_model.specs.Kinds as kinds;
 ghost use Rattle.carrier_model.specs.Values as plain;
 ghost use Rattle.prop_values.specs.Kinds.{kind_number};
 ghost use Rattle.tnef_props.specs.Steps.{Takes, Refuses};
-ghost use Rattle.tnef_props.specs.Shapes.{HasShape, IsWidth, seen};
+ghost use Rattle.prop_values.specs.Shapes.{HasShape, IsWidth};
+ghost use Rattle.tnef_props.specs.Meaning.{seen};
 
 use crate::fields::{one, padded, word};
 use crate::names::guid;
 use crate::rest::Rest;
-use crate::shapes::{Shape, shape_of};
 use crate::texts::text;
 use carrier_io::{Numbers, Stop, u16_at, u32_at, u64_at};
 use prop_names::Guid;
-use prop_values::{Guids, Kind, Parts, Value};
+use prop_values::{Guids, Kind, Parts, Shape, Value};
 use std::alloc::Global;
 
 /// The number that two, four or eight bytes are.
@@ -210,7 +210,7 @@ pub fn value<'a>(
     ensures valid { IfOk result (λ x. plain.IsValue (seen x.0)) }
     ensures fault { IfErr result (Refuses (lists.value (kind_number kind)) from.entry) }
 {
-    match shape_of(kind) {
+    match kind.shape() {
         Shape::Number(width) => number_value(from, kind, width),
         Shape::Guid => set_value(from),
         Shape::Bytes => bytes_value(from, kind),

@@ -1,47 +1,27 @@
 //! Values as they are written.
 ghost use Rattle.std.specs.Prelude.{◌≡◌, ◌+◌, ◌-◌, ◌*◌, ◌^◌, ◌<◌, ◌≤◌, ◌++◌, ℕ, All, length, replicate, flat_map};
 ghost use Rattle.tnef_model.specs.TnefCanonical as canon;
-ghost use Rattle.carrier_model.specs.Kinds as kinds;
+ghost use Rattle.tnef_model.specs.TnefLists as lists;
 ghost use Rattle.carrier_model.specs.Values as plain;
 ghost use Rattle.prop_values.specs.Kinds.{kind_number};
 ghost use Rattle.prop_values.specs.Meaning.{value_of};
 ghost use Rattle.carrier_io.specs.Summed.{Sums};
 ghost use Rattle.tnef_props.specs.Written.{HasWidth, Fits, number_field, text_field, count_field, counted, content_field};
 
-use crate::texts::null_size;
 use carrier_io::{
     Blob, Failed, Numbers, Sink, append, append_blob, append_zeros, le32, le64, pad4,
 };
-use prop_values::{Guids, Kind, Parts, Value};
+use prop_values::{Guids, Kind, Parts, Shape, Value};
 
 /// Whether a number of the kind, or each of several, has eight bytes. Every other has two or four.
 pub fn is_wide(kind: Kind) -> bool
     ensures number { 0 < plain.width_in plain.number_widths (kind_number kind) → HasWidth result (plain.width_in plain.number_widths (kind_number kind)) }
     ensures numbers { 0 < plain.width_in plain.numbers_widths (kind_number kind) → HasWidth result (plain.width_in plain.numbers_widths (kind_number kind)) }
 {
-    match kind {
-        Kind::Floating64 => true,
-        Kind::Currency => true,
-        Kind::FloatingTime => true,
-        Kind::Integer64 => true,
-        Kind::Time => true,
-        Kind::MultipleFloating64 => true,
-        Kind::MultipleCurrency => true,
-        Kind::MultipleFloatingTime => true,
-        Kind::MultipleInteger64 => true,
-        Kind::MultipleTime => true,
+    match kind.shape() {
+        Shape::Number(width) => width == 8,
+        Shape::Numbers(width) => width == 8,
         _ => false,
-    }
-}
-
-/// The bytes of the null behind each text of several of the kind.
-pub fn part_null_size(kind: Kind) -> usize
-    ensures { result ≡ kinds.null_of (kind_number kind - 0x1000) }
-{
-    match kind {
-        Kind::MultipleString8 => 1,
-        Kind::MultipleString => 2,
-        _ => 0,
     }
 }
 
@@ -148,10 +128,10 @@ fn append_content<B: Blob, W: Sink>(sink: &mut W, value: &Value<B>) -> Result<u1
     match value {
         Value::Number { kind, bits } => append_number(sink, is_wide(*kind), *bits),
         Value::Guid(set) => append(sink, &set.0),
-        Value::Bytes { kind, bytes } => append_text(sink, null_size(*kind), bytes),
+        Value::Bytes { kind, bytes } => append_text(sink, kind.null_size(), bytes),
         Value::Numbers { kind, list } => append_numbers(sink, is_wide(*kind), list),
         Value::Guids(list) => append_guids(sink, list),
-        Value::Parts { kind, list } => append_texts(sink, part_null_size(*kind), list),
+        Value::Parts { kind, list } => append_texts(sink, kind.part_null_size(), list),
     }
 }
 

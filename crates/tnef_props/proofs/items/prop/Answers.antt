@@ -4,7 +4,7 @@ use Rattle.carrier_model.specs.Values.{Value, Prop}
 use Rattle.tnef_model.specs.TnefLists.{property, key, value}
 use Rattle.prop_names.specs.Meaning.{key_of}
 use Rattle.prop_values.specs.Kinds.{kind_number}
-use Rattle.tnef_props.specs.Shapes.{seen}
+use Rattle.tnef_props.specs.Meaning.{seen}
 use Rattle.tnef_props.proofs.Forms.{then_takes, seen_takes}
 use Rattle.tnef_props.proofs.items.prop.Goals as goal
 
