@@ -1,5 +1,5 @@
 use crate::{Sectors, StreamView, file_offset};
-use carrier_io::{Blob, Fault, NoMemory, Reason, Stop, Walk};
+use carrier_io::{Blob, Fault, Reason, Stop, Walk};
 use std::alloc::{AllocError, Global};
 use std::test::*;
 
@@ -120,33 +120,41 @@ fn faults(rt: HostRuntime) -> Result<(), Fail> {
     Ok(())
 }
 
-/// Where the second byte of a stream lies, this byte, numbers of the stream, and how long the rest of its piece is.
-fn numbers(view: &StreamView<'_>) -> Option<(u64, u8, u64, u16, u64, usize)> {
-    if view.len() < 32 {
-        return None;
-    }
-    Some((
-        file_offset(view, 1),
-        view.byte(1),
-        view.number(1, 3),
-        view.u16_at(1),
-        view.u64_at(2),
-        view.rest(30).len(),
-    ))
-}
-
-/// How long a copy of a stream is, its first two bytes, and in how many pieces these are.
-fn lengths(view: &StreamView<'_>) -> Result<(usize, usize, usize), NoMemory> {
-    if view.len() < 2 {
-        return Ok((0, 0, 0));
-    }
+#[test]
+fn streams(rt: HostRuntime) -> Result<(), Fail> {
+    let file = small_file(rt.alloc())?;
+    assert_eq!(rt; file.len(), 3072);
+    let mut walk = Walk::new();
+    let mut sectors = Sectors::load(rt.alloc(), &file, &mut walk)?;
+    assert_eq!(rt; walk.count(), 4);
+    assert_eq!(rt; sectors.entries(), 8);
+    assert_eq!(rt; sectors.entry(5).size, 32);
+    assert_eq!(rt; sectors.entry_offset(5), 1664);
+    assert_eq!(rt; sectors.table().len(), 128);
+    assert_eq!(rt; sectors.mini_table().len(), 128);
+    let view = sectors.claim(rt.alloc(), 5, &mut walk)?;
+    assert_eq!(rt; walk.count(), 5);
+    assert_eq!(rt; view.len(), 32);
+    assert_eq!(rt; file_offset(&view, 1), 2561);
+    assert_eq!(rt; view.byte(1), 2);
+    assert_eq!(rt; view.number(1, 3), 0x04_0302);
+    assert_eq!(rt; view.u16_at(1), 0x0302);
+    assert_eq!(rt; view.u32_at(0), 0x0403_0201);
+    assert_eq!(rt; view.u64_at(2), 0x0403);
+    assert_eq!(rt; view.rest(30).len(), 2);
+    let copy = view.copy()?;
+    assert_eq!(rt; copy.len(), 32);
     let first = view.prefix(2)?;
-    Ok((view.copy()?.len(), first.len(), first.pieces()))
+    assert_eq!(rt; first.len(), 2);
+    assert_eq!(rt; first.pieces(), 1);
+    let empty = StreamView::empty(rt.alloc());
+    assert_eq!(rt; empty.len(), 0);
+    Ok(())
 }
 
-/// The stream of entry 5.
-fn claimed<'a>(alloc: Global, bytes: &'a [u8]) -> Result<StreamView<'a>, Fail> {
-    if bytes.len() > 3072 {
+/// The four bytes at a place of entry 5's stream, and the number in them.
+fn four_bytes(alloc: Global, bytes: &[u8], at: usize) -> Result<([u8; 4], u32), Fail> {
+    if bytes.len() > 3072 || at > 64 {
         return Err("too long")?;
     }
     let mut walk = Walk::new();
@@ -154,46 +162,13 @@ fn claimed<'a>(alloc: Global, bytes: &'a [u8]) -> Result<StreamView<'a>, Fail> {
     if sectors.entries() < 6 {
         return Err("no entry")?;
     }
-    Ok(sectors.claim(alloc, 5, &mut walk)?)
-}
-
-#[test]
-fn streams(rt: HostRuntime) -> Result<(), Fail> {
-    let file = small_file(rt.alloc())?;
-    let view = claimed(rt.alloc(), file.as_slice())?;
-    assert_eq!(rt;
-        numbers(&view),
-        Some((2561, 2, 0x04_0302, 0x0302, 0x0403, 2))
-    );
-    assert_eq!(rt; lengths(&view)?, (32, 2, 1));
-    assert_eq!(rt; StreamView::empty(rt.alloc()).len(), 0);
-    Ok(())
-}
-
-#[test]
-fn tables(rt: HostRuntime) -> Result<(), Fail> {
-    let file = small_file(rt.alloc())?;
-    assert_eq!(rt; file.len(), 3072);
-    let mut walk = Walk::new();
-    let sectors = Sectors::load(rt.alloc(), &file, &mut walk)?;
-    assert_eq!(rt; walk.count(), 4);
-    assert_eq!(rt; sectors.entries(), 8);
-    assert_eq!(rt; sectors.entry(5).size, 32);
-    assert_eq!(rt; sectors.kind(5), 2);
-    assert_eq!(rt; sectors.entry_offset(5), 1664);
-    assert_eq!(rt; sectors.table().len(), 128);
-    assert_eq!(rt; sectors.mini_table().len(), 128);
-    Ok(())
-}
-
-/// The four bytes at a place of a stream, and the number in them.
-fn four_bytes(view: &StreamView<'_>, at: usize) -> Option<([u8; 4], u32)> {
-    if at > 64 || view.len() < 68 {
-        return None;
+    let view = sectors.claim(alloc, 5, &mut walk)?;
+    if view.len() < 68 {
+        return Err("short")?;
     }
     let mut field = [0; 4];
     view.copy_range(at, &mut field);
-    Some((field, view.u32_at(at)))
+    Ok((field, view.u32_at(at)))
 }
 
 #[test]
@@ -209,7 +184,8 @@ fn across_pieces(rt: HostRuntime) -> Result<(), Fail> {
     for (at, value) in falling {
         put(&mut file, at, value);
     }
-    let view = claimed(rt.alloc(), file.as_slice())?;
-    assert_eq!(rt; four_bytes(&view, 62), Some(([5, 6, 1, 2], 0x0201_0605)));
+    let (field, number) = four_bytes(rt.alloc(), file.as_slice(), 62)?;
+    assert_eq!(rt; field, [5, 6, 1, 2]);
+    assert_eq!(rt; number, 0x0201_0605);
     Ok(())
 }
