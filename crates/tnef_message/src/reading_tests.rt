@@ -1,3 +1,4 @@
+use crate::held::Held;
 use crate::whole::read_tnef;
 use carrier_io::{Passed, Reason, Stop, le16, le32};
 use msg_tree::depth;
@@ -56,15 +57,18 @@ fn nested(rt: &HostRuntime, levels: u32) -> Result<Vec<u8>, Fail> {
     Ok(stream)
 }
 
-fn bytes_of<'a>(props: &Props<&'a [u8]>, id: u16, kind: Kind) -> Option<&'a [u8]> {
+fn bytes_of<'a>(props: &Props<Held<'a>>, id: u16, kind: Kind) -> Option<&'a [u8]> {
     let k = props.find(&Key::Id(id), kind)?;
     match &props.get(k).value {
-        Value::Bytes { bytes, .. } => Some(*bytes),
+        Value::Bytes { bytes, .. } => match bytes {
+            Held::Slice(slice) => Some(*slice),
+            Held::View(_) => None,
+        },
         _ => None,
     }
 }
 
-fn number_of(props: &Props<&[u8]>, id: u16, kind: Kind) -> Option<u64> {
+fn number_of(props: &Props<Held<'_>>, id: u16, kind: Kind) -> Option<u64> {
     let k = props.find(&Key::Id(id), kind)?;
     match &props.get(k).value {
         Value::Number { bits, .. } => Some(*bits),
@@ -113,7 +117,7 @@ fn faults_of_streams(rt: HostRuntime) -> Result<(), Fail> {
         (&subjects, Reason::DoubleAttribute, 54),
         (&small, Reason::BadSize, 101),
         (&other, Reason::BadInterface, 105),
-        (&storage, Reason::OleStorage, 105),
+        (&storage, Reason::FileTruncated, 121),
         (&inner, Reason::BadSum, 159),
         (&deep, Reason::TooDeep, 3977),
     ];
