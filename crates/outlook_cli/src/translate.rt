@@ -7,7 +7,7 @@ ghost use Rattle.carrier_model.specs.Bytes.{MOST_BYTES};
 ghost use Rattle.job_model.specs.Jobs.{Accepts, FaultOf};
 ghost use Rattle.msg_tree.specs.Whole.{plain_of};
 ghost use Rattle.outlook_cli.specs.Outcome.{Puts, Tells, WritesNothing};
-ghost use Rattle.tnef_message.specs.Views.{meaning_in};
+ghost use Rattle.msg_tree.specs.Whole.{meaning_in};
 
 use crate::status::Status;
 use carrier_io::{Blob, Fault, PlanEnd, Reason, Sink, Stop, u32_at, write_gathered};

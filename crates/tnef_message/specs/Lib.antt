@@ -6,7 +6,6 @@ pub mod Interfaces
 pub mod Roles
 pub mod Sections
 pub mod Streams
-pub mod Views
 pub mod Written
 pub mod Plans
 pub mod PlanViews

@@ -6,7 +6,7 @@ ghost use Rattle.tnef_model.specs.TnefMessage.{TnefCarrier, TnefFault, message_w
 ghost use Rattle.tnef_attributes.specs.Views.{view};
 ghost use Rattle.tnef_message.specs.Contents.{FailsPart, GivesPart, inner_at, objects_at};
 ghost use Rattle.tnef_message.specs.Streams.{GivesBody, GivesMessage, inner_fails, objects_fail, stream_fails};
-ghost use Rattle.tnef_message.specs.Views.{meaning_in};
+ghost use Rattle.msg_tree.specs.Whole.{meaning_in};
 
 use crate::contents::plain_gift;
 use crate::drafts::Draft;

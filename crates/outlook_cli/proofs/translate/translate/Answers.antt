@@ -1,5 +1,5 @@
 use Rattle.std.proofs.Common.{arith}
-use Rattle.tnef_message.specs.Views.{meaning_in}
+use Rattle.msg_tree.specs.Whole.{meaning_in}
 use Rattle.outlook_cli.proofs.Outcomes.{tells}
 use Rattle.outlook_cli.proofs.translate.translate.Goals as goal
 
