@@ -1,0 +1,8 @@
+//! Messages in .msg files, read and written. [MS-OXMSG 2.1 to 2.4]
+#![tactic(auto)]
+
+mod reading;
+mod writing;
+
+pub use reading::read_msg;
+pub use writing::files_of;
