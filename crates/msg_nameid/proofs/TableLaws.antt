@@ -1,0 +1,167 @@
+-- Slots, and the names to which they lead.
+use Rattle.std.proofs.Common.{◌≡◌, ℕ, zero, suc, ◌+◌, ◌<◌, ◌≤◌, Bool, true, false, List, [], ◌∷◌, ◌++◌, length, refl, sym, ap, subst, ◌∙◌, arith, Option, Some, None, length-append}
+use Rattle.std.specs.Prelude.{if◌then◌else◌, ◌||◌, nat_eq, slice_get, replicate}
+use Rattle.std.specs.Option.{option_map}
+use Rattle.std.proofs.Math.ListN.{set}
+use Rattle.std.proofs.lemmas.Grind.{get_or-set_at}
+use Rattle.std.proofs.lemmas.List.{get_or-set_other}
+use Rattle.std.proofs.lemmas.Bool.{cond-true, cond-false, eqb-true, eqb-false, eq-eqb, ne_eqb}
+use Rattle.carrier_model.specs.Keys.{Name}
+use Rattle.msg_model.specs.NameMap.{Pair, name_for}
+use Rattle.msg_nameid.specs.Tables.{slot_at, is_taken, count_taken, name_in, IsPlaced, IsTable}
+use Rattle.msg_nameid.specs.declared.slots.Slot.{Slot}
+use Rattle.msg_nameid.specs.declared.slots.Slot.TheVariants.{Free, Nameless, Named}
+
+-- ---- slots
+
+free_at : (n k : ℕ) → slot_at (replicate n Free) k ≡ Free
+free_at zero k = refl
+free_at (suc n) zero = refl
+free_at (suc n) (suc k) = free_at n k
+
+pub slot_at-longer : (slots : List Slot) (n k : ℕ) → slot_at (slots ++ replicate n Free) k ≡ slot_at slots k
+slot_at-longer [] n k = free_at n k
+slot_at-longer (s ∷ slots) n zero = refl
+slot_at-longer (s ∷ slots) n (suc k) = slot_at-longer slots n k
+
+no_free_taken : (n : ℕ) → count_taken (replicate n Free) ≡ 0
+no_free_taken zero = refl
+no_free_taken (suc n) = omega (arith, no_free_taken n)
+
+pub count_taken-longer : (slots : List Slot) (n : ℕ) → count_taken (slots ++ replicate n Free) ≡ count_taken slots
+count_taken-longer [] n = no_free_taken n
+count_taken-longer (s ∷ slots) n = ap (λ m. (if is_taken s then 1 else 0) + m) (count_taken-longer slots n)
+
+pub count_taken_le : (slots : List Slot) → count_taken slots ≤ length slots
+count_taken_le [] = omega arith
+count_taken_le (Free ∷ slots) = omega (arith, count_taken_le slots)
+count_taken_le (Nameless ∷ slots) = omega (arith, count_taken_le slots)
+count_taken_le (Named place ∷ slots) = omega (arith, count_taken_le slots)
+
+pub slot_at-set : (slots : List Slot) (i : ℕ) (x : Slot) (k : ℕ) → i < length slots → slot_at (set slots i x) k ≡ (if nat_eq k i then x else slot_at slots k)
+slot_at-set slots i x k lt = by (nat_eq k i) refl
+  where
+    by : (b : Bool) → nat_eq k i ≡ b → slot_at (set slots i x) k ≡ (if nat_eq k i then x else slot_at slots k)
+    by true e = get_or-set_at slots i k x Free (eqb-true k i e) lt ∙ sym (cond-true (nat_eq k i) x (slot_at slots k) e)
+    by false e = get_or-set_other slots i k x Free (eqb-false k i e) ∙ sym (cond-false (nat_eq k i) x (slot_at slots k) e)
+
+pub count_taken-set : (slots : List Slot) (i : ℕ) (x : Slot) → i < length slots → is_taken (slot_at slots i) ≡ false → is_taken x ≡ true → count_taken (set slots i x) ≡ count_taken slots + 1
+count_taken-set [] i x lt free taken = absurd (omega (arith, lt))
+count_taken-set (s ∷ slots) zero x lt free taken =
+    ap (λ (b : Bool). (if b then 1 else 0) + count_taken slots) taken
+    ∙ (omega arith ∙ ap (λ (b : Bool). (if b then 1 else 0) + count_taken slots + 1) (sym free))
+count_taken-set (s ∷ slots) (suc i) x lt free taken = ap (λ m. (if is_taken s then 1 else 0) + m) (count_taken-set slots i x (omega (arith, lt)) free taken) ∙ omega arith
+
+pub not_taken : (s : Slot) → is_taken s ≡ false → s ≡ Free
+not_taken Free e = refl
+not_taken Nameless e = absurd cc
+not_taken (Named place) e = absurd cc
+
+-- ---- the names of ids, with one pair more
+
+pub name_for-other : (pairs : List Pair) (i : ℕ) (x : Name) (n : ℕ) → (i ≡ n → ⊥) → name_for (pairs ++ (i, x) ∷ []) n ≡ name_for pairs n
+name_for-other [] i x n differ = ap (option_map (λ (p : Pair). p.1)) (cond-false (nat_eq i n) (Some (i, x)) None (ne_eqb i n differ))
+name_for-other (p ∷ pairs) i x n differ = by (nat_eq p.0 n) _ _ (name_for-other pairs i x n differ)
+  where
+    by : (b : Bool) (r s : Option Pair) → option_map (λ (p : Pair). p.1) r ≡ option_map (λ (p : Pair). p.1) s → option_map (λ (p : Pair). p.1) (if b then Some p else r) ≡ option_map (λ (p : Pair). p.1) (if b then Some p else s)
+    by true r s h = refl
+    by false r s h = h
+
+pub name_for-new : (pairs : List Pair) (i : ℕ) (x : Name) → name_for pairs i ≡ None → name_for (pairs ++ (i, x) ∷ []) i ≡ Some x
+name_for-new [] i x none = ap (option_map (λ (p : Pair). p.1)) (cond-true (nat_eq i i) (Some (i, x)) None (eq-eqb i i refl))
+name_for-new (p ∷ pairs) i x none = by (nat_eq p.0 i) _ _ (name_for-new pairs i x) none
+  where
+    by : (b : Bool) (r s : Option Pair) → (option_map (λ (p : Pair). p.1) r ≡ None → option_map (λ (p : Pair). p.1) s ≡ Some x) → option_map (λ (p : Pair). p.1) (if b then Some p else r) ≡ None → option_map (λ (p : Pair). p.1) (if b then Some p else s) ≡ Some x
+    by true r s later h = absurd cc
+    by false r s later h = later h
+
+slice_get-front : (pairs : List Pair) (p : Pair) (k : ℕ) → k < length pairs → slice_get (pairs ++ p ∷ []) k ≡ slice_get pairs k
+slice_get-front [] p k lt = absurd (omega (arith, lt))
+slice_get-front (q ∷ pairs) p zero lt = refl
+slice_get-front (q ∷ pairs) p (suc k) lt = slice_get-front pairs p k (omega (arith, lt))
+
+slice_get-end : (pairs : List Pair) (p : Pair) → slice_get (pairs ++ p ∷ []) (length pairs) ≡ Some p
+slice_get-end [] p = refl
+slice_get-end (q ∷ pairs) p = slice_get-end pairs p
+
+name_in-more : (pairs : List Pair) (p : Pair) (s : Slot) → IsPlaced (length pairs) s → name_in (pairs ++ p ∷ []) s ≡ name_in pairs s
+name_in-more pairs p Free h = refl
+name_in-more pairs p Nameless h = refl
+name_in-more pairs p (Named place) h = ap (option_map (λ (q : Pair). q.1)) (slice_get-front pairs p place h)
+
+placed-more : (n : ℕ) (s : Slot) → IsPlaced n s → IsPlaced (n + 1) s
+placed-more n Free h = tt
+placed-more n Nameless h = tt
+placed-more n (Named place) h = omega (arith, h)
+
+-- ---- tables
+
+pub table-none : IsTable [] []
+table-none = record { few = omega arith; counted = omega arith; placed = λ k. tt; low = λ n lt. refl; each = λ k. refl }
+
+pub pairs_few : (slots : List Slot) (pairs : List Pair) → IsTable slots pairs → length pairs ≤ 0x8000
+pairs_few slots pairs t = omega (arith, t.counted, t.few, count_taken_le slots)
+
+module _ (slots new : List Slot) (pairs : List Pair) (k : ℕ) (t : IsTable slots pairs) (free : is_taken (slot_at slots k) ≡ false) (few : length new ≤ 0x8000) (count : count_taken new ≡ count_taken slots + 1) where
+  none_yet : name_for pairs (0x8000 + k) ≡ None
+  none_yet = t.each k ∙ ap (name_in pairs) (not_taken (slot_at slots k) free)
+
+  pub table-named : (x : Name) → ((j : ℕ) → slot_at new j ≡ (if nat_eq j k then Named (length pairs) else slot_at slots j)) → IsTable new (pairs ++ (0x8000 + k, x) ∷ [])
+  table-named x are = record {
+    few = few;
+    counted = omega (arith, long, t.counted, count);
+    placed = λ j. subst (λ n. IsPlaced n (slot_at new j)) (sym long) (subst (IsPlaced (length pairs + 1)) (sym (are j)) (placed_by j (nat_eq j k)));
+    low = λ n lt. name_for-other pairs (0x8000 + k) x n (λ e. omega (arith, e, lt)) ∙ t.low n lt;
+    each = λ j. each_by j (nat_eq j k) refl;
+  }
+    where
+      long : length (pairs ++ (0x8000 + k, x) ∷ []) ≡ length pairs + 1
+      long = length-append pairs ((0x8000 + k, x) ∷ [])
+
+      placed_by : (j : ℕ) (b : Bool) → IsPlaced (length pairs + 1) (if b then Named (length pairs) else slot_at slots j)
+      placed_by j true = omega arith
+      placed_by j false = placed-more (length pairs) (slot_at slots j) (t.placed j)
+
+      each_by : (j : ℕ) (b : Bool) → nat_eq j k ≡ b → name_for (pairs ++ (0x8000 + k, x) ∷ []) (0x8000 + j) ≡ name_in (pairs ++ (0x8000 + k, x) ∷ []) (slot_at new j)
+      each_by j true e =
+          let same : j ≡ k = eqb-true j k e in
+          let here : slot_at new j ≡ Named (length pairs) = are j ∙ cond-true (nat_eq j k) _ _ e in
+          ap (λ (n : ℕ). name_for (pairs ++ (0x8000 + k, x) ∷ []) (0x8000 + n)) same
+          ∙ (name_for-new pairs (0x8000 + k) x none_yet
+          ∙ (sym (ap (option_map (λ (q : Pair). q.1)) (slice_get-end pairs (0x8000 + k, x)))
+          ∙ ap (name_in (pairs ++ (0x8000 + k, x) ∷ [])) (sym here)))
+      each_by j false e =
+          let differ : j ≡ k → ⊥ = eqb-false j k e in
+          let here : slot_at new j ≡ slot_at slots j = are j ∙ cond-false (nat_eq j k) _ _ e in
+          name_for-other pairs (0x8000 + k) x (0x8000 + j) (λ f. differ (omega (arith, f)))
+          ∙ (t.each j
+          ∙ (sym (name_in-more pairs (0x8000 + k, x) (slot_at slots j) (t.placed j))
+          ∙ ap (name_in (pairs ++ (0x8000 + k, x) ∷ [])) (sym here)))
+
+  pub table-nameless : ((j : ℕ) → slot_at new j ≡ (if nat_eq j k then Nameless else slot_at slots j)) → IsTable new pairs
+  table-nameless are = record {
+    few = few;
+    counted = omega (arith, t.counted, count);
+    placed = λ j. subst (IsPlaced (length pairs)) (sym (are j)) (placed_by j (nat_eq j k));
+    low = t.low;
+    each = λ j. each_by j (nat_eq j k) refl;
+  }
+    where
+      placed_by : (j : ℕ) (b : Bool) → IsPlaced (length pairs) (if b then Nameless else slot_at slots j)
+      placed_by j true = tt
+      placed_by j false = t.placed j
+
+      each_by : (j : ℕ) (b : Bool) → nat_eq j k ≡ b → name_for pairs (0x8000 + j) ≡ name_in pairs (slot_at new j)
+      each_by j true e =
+          let same : j ≡ k = eqb-true j k e in
+          let here : slot_at new j ≡ Nameless = are j ∙ cond-true (nat_eq j k) _ _ e in
+          ap (λ (n : ℕ). name_for pairs (0x8000 + n)) same ∙ (none_yet ∙ ap (name_in pairs) (sym here))
+      each_by j false e = t.each j ∙ ap (name_in pairs) (sym (are j ∙ cond-false (nat_eq j k) _ _ e))
+
+-- which indexes are taken then
+pub taken_more : (slots new : List Slot) (x : Slot) (k : ℕ) → is_taken x ≡ true → ((j : ℕ) → slot_at new j ≡ (if nat_eq j k then x else slot_at slots j)) → (j : ℕ) → is_taken (slot_at new j) ≡ (nat_eq j k || is_taken (slot_at slots j))
+taken_more slots new x k taken are j = ap is_taken (are j) ∙ by (nat_eq j k)
+  where
+    by : (b : Bool) → is_taken (if b then x else slot_at slots j) ≡ (b || is_taken (slot_at slots j))
+    by true = taken
+    by false = refl
