@@ -7,10 +7,11 @@ use Rattle.std.proofs.lemmas.List.{map-append}
 use Rattle.std.proofs.lemmas.List.Elements.{filter_map-append}
 use Rattle.carrier_io.specs.declared.reasons.Stop.{Stop}
 use Rattle.carrier_io.specs.declared.reasons.Stop.TheVariants as stops
-use Rattle.carrier_io.specs.Reads.{Fails, Gives, Reads}
+use Rattle.carrier_io.specs.Reads.{Gives, Reads}
 use Rattle.carrier_io.specs.Reasons.{fault_of}
 use Rattle.carrier_model.specs.Chains.{member}
-use Rattle.carrier_model.specs.Outcomes.{◌>>=◌, check, mapped}
+use Rattle.carrier_model.specs.Keys.{Name}
+use Rattle.carrier_model.specs.Outcomes.{◌>>=◌, mapped}
 use Rattle.carrier_model.specs.Reasons.{BAD_PROPERTY_INDEX, DOUBLE_ID}
 use Rattle.carrier_model.specs.Trail.{Fault}
 use Rattle.carrier_model.specs.Turns.{in_turn}
@@ -18,6 +19,7 @@ use Rattle.carrier_model.proofs.Turns.{bind_from, check_from}
 use Rattle.carrier_model.proofs.TurnSteps.{upto-push, upto-fault}
 use Rattle.msg_model.specs.NameMap.{NameStreams, NameEntry, name_entry, name_entries, property_index, Given, named_by, is_new_index, given_by, Pair, pair_in, pairs_of, NamePairs}
 use Rattle.msg_model.proofs.NameMap.{pairs_of-sound, pairs_of-only}
+use Rattle.msg_nameid.proofs.NameLaws.{check_fails, fails_with}
 use Rattle.msg_nameid.specs.Drafts.{pairs_in, IsWhole, IsDraftOf}
 use Rattle.msg_nameid.specs.Tables.{slot_at, is_taken}
 use Rattle.msg_nameid.specs.declared.drafts.Draft.{Draft}
@@ -25,16 +27,7 @@ use Rattle.msg_nameid.specs.declared.drafts.Draft.{Draft}
 abbrev pub indexes : List Given → List ℕ
 indexes = map (λ g. g.index)
 
--- a reader that stops where another stops
-pub fails_with : {A B : Type 0} (e : Stop) (r : Result A Fault) (s : Result B Fault) → ((g : Fault) → r ≡ Err g → s ≡ Err g) → Fails e r → Fails e s
-fails_with (stops.Fault g) r s f h = f (fault_of g) h
-fails_with stops.NoMemory r s f h = tt
-
 -- ---- one entry
-
-check_fails : {B : Type 0} (t : Bool) (reason offset : ℕ) (f : Unit {0} → Result B Fault) → t ≡ false → (check t reason offset >>= f) ≡ Err (reason, offset)
-check_fails true reason offset f e = absurd cc
-check_fails false reason offset f e = refl
 
 module _ (s : NameStreams) (given : List Given) (e : NameEntry) where
   pub index_fails : 0x7FFF < property_index e → given_by s given e ≡ Err (BAD_PROPERTY_INDEX, e.place)

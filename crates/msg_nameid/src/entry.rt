@@ -1,5 +1,5 @@
 //! One entry of a name map.
-ghost use Rattle.std.specs.Prelude.{◌≡◌, ◌+◌, ◌*◌, ◌≤◌, length, IfOk, IsTrue};
+ghost use Rattle.std.specs.Prelude.{◌≡◌, ◌+◌, ◌*◌, ◌≤◌, length, IfOk, IfSome, IsTrue};
 ghost use Rattle.std.specs.Option.{option_map};
 ghost use Rattle.carrier_io.specs.Reads.{Gives};
 ghost use Rattle.carrier_model.specs.Keys.{IsName};
@@ -50,10 +50,10 @@ impl NameEntry {
     }
 
     /// Which property set.
-    fn set_index(&self) -> usize
+    fn set_index(&self) -> u16
         ensures { result ≡ model.set_index (entry_seen self.now) }
     {
-        (self.word / 2 % 0x8000) as usize
+        (self.word / 2 % 0x8000) as u16
     }
 
     /// Which property.
@@ -66,7 +66,8 @@ impl NameEntry {
 
 /// The k-th entry.
 pub fn entry_at(entries: &StreamView<'_>, k: usize) -> NameEntry
-    requires { 8 * (k + 1) ≤ length (bytes_of entries.now) }
+    requires there { 8 * k + 8 ≤ length (bytes_of entries.now) }
+    requires room { 8 * k + 8 ≤ 0xFFFFFFFFFFFFFFFF }
     ensures { entry_seen result ≡ model.name_entry (stream_seen entries.now) k }
 {
     NameEntry {
@@ -77,25 +78,25 @@ pub fn entry_at(entries: &StreamView<'_>, k: usize) -> NameEntry
 }
 
 /// Whether the stream has the GUIDs up to that of an index.
-fn has_set(guids: &StreamView<'_>, index: usize) -> bool
+fn has_set(guids: &StreamView<'_>, index: u16) -> bool
     ensures { result ≡ model.has_set (bytes_of guids.now) index }
 {
-    index < 2 || 16 * (index - 2) <= guids.len()
+    index < 2 || 16 * usize::from(index - 2) <= guids.len()
 }
 
 /// The property set of an index from 3 on.
-fn listed_set(guids: &StreamView<'_>, index: usize) -> Guid
+fn listed_set(guids: &StreamView<'_>, index: u16) -> Guid
     requires listed { 3 ≤ index }
     requires there { IsTrue (model.has_set (bytes_of guids.now) index) }
     ensures { result.0 ≡ model.set_at (bytes_of guids.now) index }
 {
     let mut set = [0; 16];
-    guids.copy_range(16 * (index - 3), &mut set);
+    guids.copy_range(16 * usize::from(index - 3), &mut set);
     Guid(set)
 }
 
 /// The property set of an index.
-fn set_at(guids: &StreamView<'_>, index: usize) -> Guid
+fn set_at(guids: &StreamView<'_>, index: u16) -> Guid
     requires some { 1 ≤ index }
     requires there { IsTrue (model.has_set (bytes_of guids.now) index) }
     ensures { result.0 ≡ model.set_at (bytes_of guids.now) index }
@@ -109,9 +110,9 @@ fn set_at(guids: &StreamView<'_>, index: usize) -> Guid
 
 /// The name of an entry in a property set. BadGuidIndex and BadNameOffset at the entry, BadNameLength at the length of the
 /// text.
-fn name_in_set(alloc: Global, streams: NameStreams<'_, '_>, entry: NameEntry) -> Result<Name, Stop>
+fn name_in_set(alloc: Global, streams: &NameStreams<'_, '_>, entry: NameEntry) -> Result<Name, Stop>
     requires { 1 ≤ model.set_index (entry_seen entry) }
-    ensures answer { Gives name_of result (model.name_of (streams_seen streams) (entry_seen entry)) }
+    ensures answer { Gives name_of result (model.name_of (streams_seen streams.now) (entry_seen entry)) }
     ensures name { IfOk result (λ n. IsName (name_of n)) }
 {
     let index = entry.set_index();
@@ -123,7 +124,7 @@ fn name_in_set(alloc: Global, streams: NameStreams<'_, '_>, entry: NameEntry) ->
     }
     let set = set_at(streams.guids, index);
     if entry.is_text() {
-        let units = text_at(alloc, streams.texts, entry.identifier as usize, entry.offset)?;
+        let units = text_at(alloc, streams.texts, entry.identifier, entry.offset)?;
         return Ok(Name::Text { set, units });
     }
     Ok(Name::Number {
@@ -135,10 +136,10 @@ fn name_in_set(alloc: Global, streams: NameStreams<'_, '_>, entry: NameEntry) ->
 /// The name of an entry; None in the property set 0.
 pub fn name_at(
     alloc: Global,
-    streams: NameStreams<'_, '_>,
+    streams: &NameStreams<'_, '_>,
     entry: NameEntry,
 ) -> Result<Option<Name>, Stop>
-    ensures answer { Gives (option_map name_of) result (model.named_by (streams_seen streams) (entry_seen entry)) }
+    ensures answer { Gives (option_map name_of) result (model.named_by (streams_seen streams.now) (entry_seen entry)) }
     ensures name { IfOk result (λ o. IfSome o (λ n. IsName (name_of n))) }
 {
     if entry.set_index() == 0 {

@@ -52,17 +52,24 @@ fn sorted_by_name<'e>(mut spots: Vec<Spot<'e>>) -> Vec<Spot<'e>>
     spots
 }
 
+/// Where each stands among the entries.
+fn places_of(alloc: Global, spots: &[Spot<'_>]) -> Result<Vec<u16>, NoMemory>
+    ensures { IfOk result (λ order. order.items ≡ map (λ s. s.place) spots.now) }
+{
+    let mut order = Vec::with_capacity(alloc, spots.len())?;
+    for spot in spots {
+        order.push(spot.place)?;
+    }
+    Ok(order)
+}
+
 /// The places of entries in the order of their names, and then of their ids.
 pub fn order_of(alloc: Global, entries: &[Entry]) -> Result<Vec<u16>, NoMemory>
     requires { length entries.now ≤ 0x8000 }
     ensures { IfOk result (λ order. IsOrderOf (map pair_of entries.now) order.items) }
 {
     let spots = sorted_by_name(spots_of(alloc, entries)?);
-    let mut order = Vec::with_capacity(alloc, spots.len())?;
-    for spot in &spots {
-        order.push(spot.place)?;
-    }
-    Ok(order)
+    places_of(alloc, &spots)
 }
 
 /// The entry that is k-th in an order.

@@ -36,6 +36,7 @@ fn units_at(
     at: usize,
     size: usize,
 ) -> Result<Units, NoMemory>
+    requires low { at ≤ 0x100000003 }
     requires even { size % 2 ≡ 0 }
     requires few { size ≤ 510 }
     requires inside { at + size ≤ length (bytes_of texts.now) }
@@ -55,13 +56,13 @@ fn units_at(
 pub fn text_at(
     alloc: Global,
     texts: &StreamView<'_>,
-    at: usize,
+    at: u32,
     entry: u64,
 ) -> Result<Units, Stop>
-    requires { at ≤ 0xFFFFFFFF }
     ensures answer { Gives (λ units. units) result (model.text_at (stream_seen texts.now) at entry) }
     ensures few { IfOk result (λ units. length units ≤ 255) }
 {
+    let at = at as usize;
     if at + 4 > texts.len() {
         return Err(Stop::Fault(Fault {
             reason: Reason::BadNameOffset,
