@@ -88,3 +88,10 @@ assigned_more names k x pairs new lt at is e =
   where
     taken_long : length (take k names) ≡ k
     taken_long = length-take-le k names (omega (arith, lt))
+
+-- where each name was looked at, they are in order
+pub looked_at : (names : List Name) (k : ℕ) → length names ≤ k → (0 < k → IsStrictlySorted name_cmp names) → IsStrictlySorted name_cmp names
+looked_at names k all sorted = elim (cases_lt 0 k) [
+  | inl some ↦ sorted some
+  | inr none ↦ λ i j d lt in_range. absurd (omega (arith, none, all, lt, in_range))
+]

@@ -1,5 +1,5 @@
 -- Slots, and the names to which they lead.
-use Rattle.std.proofs.Common.{◌≡◌, ℕ, zero, suc, ◌+◌, ◌<◌, ◌≤◌, Bool, true, false, List, [], ◌∷◌, ◌++◌, length, refl, sym, ap, subst, ◌∙◌, arith, Option, Some, None, length-append}
+use Rattle.std.proofs.Common.{◌≡◌, ℕ, zero, suc, ◌+◌, ◌-◌, ◌<◌, ◌≤◌, Bool, true, false, List, [], ◌∷◌, ◌++◌, length, refl, sym, ap, subst, ◌∙◌, arith, Option, Some, None, length-append}
 use Rattle.std.specs.Prelude.{if◌then◌else◌, ◌||◌, nat_eq, slice_get, replicate}
 use Rattle.std.specs.Option.{option_map}
 use Rattle.std.proofs.Math.ListN.{set}
@@ -157,6 +157,15 @@ module _ (slots new : List Slot) (pairs : List Pair) (k : ℕ) (t : IsTable slot
           let here : slot_at new j ≡ Nameless = are j ∙ cond-true (nat_eq j k) _ _ e in
           ap (λ (n : ℕ). name_for pairs (0x8000 + n)) same ∙ (none_yet ∙ ap (name_in pairs) (sym here))
       each_by j false e = t.each j ∙ ap (name_in pairs) (sym (are j ∙ cond-false (nat_eq j k) _ _ e))
+
+-- the name to which a slot leads
+pub named : (slots : List Slot) (pairs : List Pair) (t : IsTable slots pairs) (id place : ℕ) (p : Pair) → 0x8000 ≤ id → slot_at slots (id - 0x8000) ≡ Named place → slice_get pairs place ≡ Some p → name_for pairs id ≡ Some p.1
+named slots pairs t id place p high h at =
+    ap (name_for pairs) (let e : id ≡ 0x8000 + (id - 0x8000) = omega (arith, high) in e)
+    ∙ (t.each (id - 0x8000) ∙ (ap (name_in pairs) h ∙ ap (option_map (λ (q : Pair). q.1)) at))
+
+pub placed_there : (slots : List Slot) (pairs : List Pair) (t : IsTable slots pairs) (k place : ℕ) → slot_at slots k ≡ Named place → place < length pairs
+placed_there slots pairs t k place h = subst (IsPlaced (length pairs)) h (t.placed k)
 
 -- which indexes are taken then
 pub taken_more : (slots new : List Slot) (x : Slot) (k : ℕ) → is_taken x ≡ true → ((j : ℕ) → slot_at new j ≡ (if nat_eq j k then x else slot_at slots j)) → (j : ℕ) → is_taken (slot_at new j) ≡ (nat_eq j k || is_taken (slot_at slots j))

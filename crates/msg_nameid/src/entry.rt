@@ -110,9 +110,9 @@ fn set_at(guids: &StreamView<'_>, index: u16) -> Guid
 
 /// The name of an entry in a property set. BadGuidIndex and BadNameOffset at the entry, BadNameLength at the length of the
 /// text.
-fn name_in_set(alloc: Global, streams: &NameStreams<'_, '_>, entry: NameEntry) -> Result<Name, Stop>
+fn name_in_set(alloc: Global, streams: NameStreams<'_, '_>, entry: NameEntry) -> Result<Name, Stop>
     requires { 1 ≤ model.set_index (entry_seen entry) }
-    ensures answer { Gives name_of result (model.name_of (streams_seen streams.now) (entry_seen entry)) }
+    ensures answer { Gives name_of result (model.name_of (streams_seen streams.entry) (entry_seen entry)) }
     ensures name { IfOk result (λ n. IsName (name_of n)) }
 {
     let index = entry.set_index();
@@ -136,10 +136,10 @@ fn name_in_set(alloc: Global, streams: &NameStreams<'_, '_>, entry: NameEntry) -
 /// The name of an entry; None in the property set 0.
 pub fn name_at(
     alloc: Global,
-    streams: &NameStreams<'_, '_>,
+    streams: NameStreams<'_, '_>,
     entry: NameEntry,
 ) -> Result<Option<Name>, Stop>
-    ensures answer { Gives (option_map name_of) result (model.named_by (streams_seen streams.now) (entry_seen entry)) }
+    ensures answer { Gives (option_map name_of) result (model.named_by (streams_seen streams.entry) (entry_seen entry)) }
     ensures name { IfOk result (λ o. IfSome o (λ n. IsName (name_of n))) }
 {
     if entry.set_index() == 0 {

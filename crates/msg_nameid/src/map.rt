@@ -86,10 +86,11 @@ impl NameMap {
         ensures name { option_map (λ n. name_of n.now) result ≡ name_for self.now id }
         ensures short { IfSome result (λ n. keys.IsName (name_of n.now)) }
     {
+        let slots = &self.slots;
         if id < 0x8000 {
             return None;
         }
-        match self.slots.get(id - 0x8000) {
+        match slots.get(id - 0x8000) {
             Slot::Named(place) => Some(&self.entries[usize::from(place)].name),
             _ => None,
         }

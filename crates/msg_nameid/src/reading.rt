@@ -36,7 +36,7 @@ fn or_empty<'s, 'a>(
     empty: &'s StreamView<'a>,
 ) -> &'s StreamView<'a>
     requires { stream_seen empty.now ≡ stream_or_none None }
-    ensures { stream_seen result.now ≡ stream_or_none (option_map (λ v. stream_seen v.now) found) }
+    ensures { stream_seen result.now ≡ stream_or_none (option_map (λ v. stream_seen v.now) found.entry) }
 {
     match found {
         Some(view) => view,
@@ -75,14 +75,14 @@ fn fault_at(reason: Reason, entry: NameEntry) -> Stop
 /// length of the text. After an error the draft may be broken.
 fn add_entry(
     alloc: Global,
-    streams: &NameStreams<'_, '_>,
+    streams: NameStreams<'_, '_>,
     entry: NameEntry,
     draft: &mut Draft,
 ) -> Result<(), Stop>
     requires { IsWhole draft.old }
     ensures whole { OnOk result (IsWhole draft.new) }
-    ensures added { (given : List Given) → IsDraftOf draft.old given → OnOk result ((g : Given) × (given_by (streams_seen streams.now) given (entry_seen entry) ≡ Ok g) × IsDraftOf draft.new (given ++ g ∷ [])) }
-    ensures fault { (given : List Given) → IsDraftOf draft.old given → IfErr result (λ stop. Fails stop (given_by (streams_seen streams.now) given (entry_seen entry))) }
+    ensures added { (given : List Given) → IsDraftOf draft.old given → OnOk result ((g : Given) × (given_by (streams_seen streams.entry) given (entry_seen entry) ≡ Ok g) × IsDraftOf draft.new (given ++ g ∷ [])) }
+    ensures fault { (given : List Given) → IsDraftOf draft.old given → IfErr result (λ stop. Fails stop (given_by (streams_seen streams.entry) given (entry_seen entry))) }
 {
     let index = entry.property_index();
     if index > 0x7FFF {
@@ -99,8 +99,8 @@ fn add_entry(
 }
 
 /// The names of the entries, or the first fault.
-fn read_entries(alloc: Global, streams: &NameStreams<'_, '_>) -> Result<NameMap, Stop>
-    ensures { Gives (λ m. m) result (pairs_of (streams_seen streams.now)) }
+fn read_entries(alloc: Global, streams: NameStreams<'_, '_>) -> Result<NameMap, Stop>
+    ensures { Gives (λ m. m) result (pairs_of (streams_seen streams.entry)) }
 {
     let mut draft = Draft::new(alloc);
     for k in 0..streams.entries.len() / ENTRY_SIZE {
@@ -120,14 +120,14 @@ impl NameMap {
     {
         let empty = StreamView::empty(alloc);
         match files.storage(files.root(), NAME_MAP) {
-            Some(at) => read_entries(alloc, &streams_in(files, at, &empty)),
+            Some(at) => read_entries(alloc, streams_in(files, at, &empty)),
             None => {
                 let streams = NameStreams {
                     guids: &empty,
                     entries: &empty,
                     texts: &empty,
                 };
-                read_entries(alloc, &streams)
+                read_entries(alloc, streams)
             }
         }
     }
