@@ -13,6 +13,7 @@ use Rattle.carrier_model.specs.Chains.{member}
 use Rattle.carrier_model.specs.Keys.{Name}
 use Rattle.carrier_model.specs.Outcomes.{◌>>=◌, mapped}
 use Rattle.carrier_model.specs.Reasons.{BAD_PROPERTY_INDEX, DOUBLE_ID}
+use Rattle.carrier_model.specs.Streams.{Stream}
 use Rattle.carrier_model.specs.Trail.{Fault}
 use Rattle.carrier_model.specs.Turns.{in_turn}
 use Rattle.carrier_model.proofs.Turns.{bind_from, check_from}
@@ -125,3 +126,8 @@ both_sides view (Err (stops.Fault g)) s h = record {
   meaningless = λ y m. apart (pairs_of s) y (fault_of g) (pairs_of-only s y m) h;
 }
 both_sides view (Err stops.NoMemory) s h = tt
+
+-- streams without entries name nothing
+pub none_named : (guids texts : Stream) → pairs_of (record { guids = guids; entries = record { bytes = []; places = [] }; texts = texts }) ≡ Ok []
+unfolding pairs_of in_turn
+none_named guids texts = refl

@@ -44,23 +44,6 @@ fn or_empty<'s, 'a>(
     }
 }
 
-/// The streams of the name map in its storage. An absent one is empty.
-fn streams_in<'s, 'a>(
-    files: &'s Files<'a>,
-    at: StorageId,
-    empty: &'s StreamView<'a>,
-) -> NameStreams<'s, 'a>
-    requires there { IsThere files.now at }
-    requires empty { stream_seen empty.now ≡ stream_or_none None }
-    ensures { streams_seen result ≡ name_streams_in (streams_of (Some (storage_seen files.now at))) }
-{
-    NameStreams {
-        guids: or_empty(files.stream(at, GUID_STREAM), empty),
-        entries: or_empty(files.stream(at, ENTRY_STREAM), empty),
-        texts: or_empty(files.stream(at, TEXT_STREAM), empty),
-    }
-}
-
 /// A fault at an entry.
 fn fault_at(reason: Reason, entry: NameEntry) -> Stop
     ensures { result ≡ Stop.Fault (record { reason = reason; offset = entry.offset }) }
@@ -110,25 +93,37 @@ fn read_entries(alloc: Global, streams: NameStreams<'_, '_>) -> Result<NameMap, 
     Ok(NameMap::from_draft(alloc, draft)?)
 }
 
+/// The names of the storage of a name map. An absent stream is empty.
+fn read_storage<'a>(
+    alloc: Global,
+    files: &Files<'a>,
+    at: StorageId,
+    empty: &StreamView<'a>,
+) -> Result<NameMap, Stop>
+    requires there { IsThere files.now at }
+    requires empty { stream_seen empty.now ≡ stream_or_none None }
+    ensures { Gives (λ m. m) result (pairs_of (name_streams_in (streams_of (Some (storage_seen files.now at))))) }
+{
+    let streams = NameStreams {
+        guids: or_empty(files.stream(at, GUID_STREAM), empty),
+        entries: or_empty(files.stream(at, ENTRY_STREAM), empty),
+        texts: or_empty(files.stream(at, TEXT_STREAM), empty),
+    };
+    read_entries(alloc, streams)
+}
+
 impl NameMap {
     /// The names of a file, or the first fault of its name map: entry by entry BadPropertyIndex, DoubleId, BadGuidIndex and
     /// BadNameOffset at the entry, BadNameLength at the length of the text. An absent storage or stream is empty.
     /// [MS-OXMSG 2.2.3]
-    pub fn read(alloc: Global, files: &Files<'_>) -> Result<NameMap, Stop>
+    pub fn read<'a>(alloc: Global, files: &Files<'a>) -> Result<NameMap, Stop>
         ensures answer { Gives (λ m. m) result (pairs_of (name_streams (files_seen files.now))) }
         ensures both { Reads (λ m. m) result (NamePairs (name_streams (files_seen files.now))) (λ g. pairs_of (name_streams (files_seen files.now)) ≡ Err g) }
     {
         let empty = StreamView::empty(alloc);
         match files.storage(files.root(), NAME_MAP) {
-            Some(at) => read_entries(alloc, streams_in(files, at, &empty)),
-            None => {
-                let streams = NameStreams {
-                    guids: &empty,
-                    entries: &empty,
-                    texts: &empty,
-                };
-                read_entries(alloc, streams)
-            }
+            Some(at) => read_storage(alloc, files, at, &empty),
+            None => Ok(NameMap::from_draft(alloc, Draft::new(alloc))?),
         }
     }
 }

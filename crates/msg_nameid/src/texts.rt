@@ -53,12 +53,7 @@ fn units_at(
 /// The units of the text at a place: its size, and so many bytes. BadNameOffset at the entry, whose offset in the file is
 /// given, and BadNameLength at the size. [MS-OXMSG 2.2.3.1.3]
 #[tactic(auto, unfolding(msg_model::specs::NameMap::text_at))]
-pub fn text_at(
-    alloc: Global,
-    texts: &StreamView<'_>,
-    at: u32,
-    entry: u64,
-) -> Result<Units, Stop>
+pub fn text_at(alloc: Global, texts: &StreamView<'_>, at: u32, entry: u64) -> Result<Units, Stop>
     ensures answer { Gives (λ units. units) result (model.text_at (stream_seen texts.now) at entry) }
     ensures few { IfOk result (λ units. length units ≤ 255) }
 {

@@ -50,8 +50,7 @@ returns-in_ok-add_name-in-Some-clause-added c given d =
     let name : Name = name_of c.in-Some.name in
     let new : member (property_index e) (indexes given) ≡ false =
     ap (λ (n : ℕ). member n (indexes given)) (sym index) ∙ (sym (d.taken c.property_index-index.result) ∙ (sym c.has.ensures ∙ c.if-has.false)) in
-    let named : named_by s e ≡ Ok (Some name) = c.in_ok-name.ensures.answer ∙ ap (λ (o : Option rust.Name). Ok (option_map name_of o)) c.in-Some.is in
-    (
+    let named : named_by s e ≡ Ok (Some name) = c.in_ok-name.ensures.answer ∙ ap (λ (o : Option rust.Name). Ok (option_map name_of o)) c.in-Some.is in (
       record { index = property_index e; name = Some name },
       name_gives s given e (omega (arith, index, c.if-index-gt32767.false)) new (Some name) named,
       draft_more old c.add_name.new.self given (record { index = property_index e; name = Some name }) d
@@ -67,8 +66,7 @@ returns-in_ok-add_nameless-in-None-clause-added c given d =
     let index : c.property_index-index.result ≡ property_index e = c.property_index-index.ensures in
     let new : member (property_index e) (indexes given) ≡ false =
     ap (λ (n : ℕ). member n (indexes given)) (sym index) ∙ (sym (d.taken c.property_index-index.result) ∙ (sym c.has.ensures ∙ c.if-has.false)) in
-    let named : named_by s e ≡ Ok None = c.in_ok-name.ensures.answer ∙ ap (λ (o : Option rust.Name). Ok (option_map name_of o)) c.in-None.is in
-    (
+    let named : named_by s e ≡ Ok None = c.in_ok-name.ensures.answer ∙ ap (λ (o : Option rust.Name). Ok (option_map name_of o)) c.in-None.is in (
       record { index = property_index e; name = None },
       name_gives s given e (omega (arith, index, c.if-index-gt32767.false)) new None named,
       draft_more old c.add_nameless.new.self given (record { index = property_index e; name = None }) d

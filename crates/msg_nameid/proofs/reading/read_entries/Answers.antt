@@ -30,3 +30,12 @@ loop-k-preserved c =
     let new = c.add_entry.new.draft in
     read_more s l.draft new l.k r c.in_ok-add_entry.ensures.whole
     (subst (λ (e : NameEntry). (g : Given) × (given_by s r.given e ≡ Ok g) × IsDraftOf new (r.given ++ g ∷ [])) c.entry_at-entry.ensures (c.in_ok-add_entry.ensures.added r.given r.draft))
+
+pub returns : goal.returns
+returns c =
+    let s = streams_seen c.args.streams in
+    let l = c.loop-k in
+    let last : l.k ≡ c.len-k-end.result / 8 = omega (arith, c.loop-k-test.false, l.auto.k-end) in
+    let all : map (name_entry s.entries) (range_with_len 0 l.k) ≡ name_entries s.entries =
+    ap (λ (m : ℕ). map (name_entry s.entries) (range_with_len 0 m)) last ∙ ap (λ (m : ℕ). map (name_entry s.entries) (range_with_len 0 (m / 8))) c.len-k-end.ensures in
+    read_all s l.draft l.k l.invariant all ∙ ap Ok (sym c.in_ok-from_draft.ensures)

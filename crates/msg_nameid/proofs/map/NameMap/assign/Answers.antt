@@ -33,4 +33,4 @@ returns-clause-assigned c =
     let names = c.args.names.now in
     let l = c.loop-k in
     let all : length names ≤ l.k = omega (arith, c.loop-k-test.false, c.len-k-end.ensures) in
-    IfOk-weaker c.from_draft.result _ _ (λ m is. subst IsAssigned (sym (is ∙ (l.invariant.pairs ∙ ap (pairs_from 0) (take_all l.k names all)))) (from_is_assigned names (looked_at names l.k all l.invariant.sorted) c.requires)) c.from_draft.ensures
+    IfOk-weaker c.from_draft.result _ _ (λ m is. subst IsAssigned (sym (is ∙ (l.invariant.pairs ∙ ap (pairs_from 0) (take_all l.k names all)))) (from_is_assigned names (looked_at names l.k all l.invariant.sorted) c.requires.few)) c.from_draft.ensures

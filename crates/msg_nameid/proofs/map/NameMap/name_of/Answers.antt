@@ -1,4 +1,4 @@
-use Rattle.std.proofs.Common.{◌≡◌, ◌∙◌, ◌-◌, ◌<◌, List, length, map, refl, sym, ap, subst, arith}
+use Rattle.std.proofs.Common.{◌≡◌, ◌∙◌, ℕ, ◌-◌, ◌<◌, List, get_or, length, map, refl, sym, ap, subst, arith}
 use Rattle.std.specs.Prelude.{Option, Some, None, slice_get}
 use Rattle.std.proofs.lemmas.List.{length-map}
 use Rattle.std.proofs.lemmas.Option.{slice_get_read}
@@ -22,7 +22,7 @@ returns-in-Named-clause-name c =
     let place = c.in-Named.place in
     let slot : slot_at c.self.inside.slots (c.args.id - 0x8000) ≡ Named place = sym c.get.ensures ∙ c.in-Named.is in
     let inside : place < length items = omega (arith, placed_there c.self.inside.slots pairs c.self.invariant.table (c.args.id - 0x8000) place slot, length-map items pair_of) in
-    let at : slice_get items place ≡ Some c.index.result.now = slice_get_read items (length items) place c.index.result.now refl inside c.index.ensures in
+    let at : slice_get items place ≡ Some c.index.result.now = slice_get_read items (length items) place c.index.result.now refl inside (c.index.ensures ∙ ap (λ (n : ℕ). get_or items n c.index.result.now) c.from.ensures) in
     sym (subst (λ (l : List Pair). name_for l c.args.id ≡ Some (name_of c.index.result.now.name)) c.self.view_is
     (named c.self.inside.slots pairs c.self.invariant.table c.args.id place (pair_of c.index.result.now) c.if-id-lt32768.false slot (view_got pair_of items place c.index.result.now at)))
 
@@ -33,5 +33,5 @@ returns-in-Named-clause-short c =
     let place = c.in-Named.place in
     let slot : slot_at c.self.inside.slots (c.args.id - 0x8000) ≡ Named place = sym c.get.ensures ∙ c.in-Named.is in
     let inside : place < length items = omega (arith, placed_there c.self.inside.slots pairs c.self.invariant.table (c.args.id - 0x8000) place slot, length-map items pair_of) in
-    let at : slice_get items place ≡ Some c.index.result.now = slice_get_read items (length items) place c.index.result.now refl inside c.index.ensures in
+    let at : slice_get items place ≡ Some c.index.result.now = slice_get_read items (length items) place c.index.result.now refl inside (c.index.ensures ∙ ap (λ (n : ℕ). get_or items n c.index.result.now) c.from.ensures) in
     all_got IsName (λ (p : Pair). p.1) pairs place (pair_of c.index.result.now) c.self.invariant.names (view_got pair_of items place c.index.result.now at)
