@@ -1,8 +1,8 @@
 -- What entries give, and a draft of it.
-use Rattle.std.proofs.Common.{◌≡◌, ℕ, ◌+◌, ◌<◌, ◌≤◌, Bool, true, false, not, List, [], ◌∷◌, ◌++◌, map, refl, sym, ap, subst, ◌∙◌, arith}
-use Rattle.std.specs.Prelude.{filter_map, nat_eq, nat_le, ◌||◌, Option, Some, None, Result, Ok, Err, ◌==◌, if◌then◌else◌}
+use Rattle.std.proofs.Common.{◌≡◌, ℕ, ◌+◌, ◌<◌, ◌≤◌, Bool, true, false, not, List, [], ◌∷◌, ◌++◌, map, refl, sym, ap, ◌∙◌}
+use Rattle.std.specs.Prelude.{filter_map, nat_eq, nat_le, ◌||◌, Option, Result, Ok, Err}
 use Rattle.std.specs.List.{range_with_len}
-use Rattle.std.proofs.lemmas.Bool.{le-leb, not_from_false, lt-leb, eq-eqb, ne_eqb, cond-true, cond-false}
+use Rattle.std.proofs.lemmas.Bool.{le-leb, not_from_false, lt-leb}
 use Rattle.std.proofs.lemmas.List.{map-append}
 use Rattle.std.proofs.lemmas.List.Elements.{filter_map-append}
 use Rattle.carrier_io.specs.declared.reasons.Stop.{Stop}
@@ -20,7 +20,7 @@ use Rattle.carrier_model.proofs.Turns.{bind_from, check_from}
 use Rattle.carrier_model.proofs.TurnSteps.{upto-push, upto-fault}
 use Rattle.msg_model.specs.NameMap.{NameStreams, NameEntry, name_entry, name_entries, property_index, Given, named_by, is_new_index, given_by, Pair, pair_in, pairs_of, NamePairs}
 use Rattle.msg_model.proofs.NameMap.{pairs_of-sound, pairs_of-only}
-use Rattle.msg_nameid.proofs.NameLaws.{check_fails, fails_with}
+use Rattle.msg_nameid.proofs.NameLaws.{check_fails}
 use Rattle.msg_nameid.specs.Drafts.{pairs_in, IsWhole, IsDraftOf}
 use Rattle.msg_nameid.specs.Tables.{slot_at, is_taken}
 use Rattle.msg_nameid.specs.declared.drafts.Draft.{Draft}

@@ -1,10 +1,9 @@
 -- The streams of a name map.
-use Rattle.std.proofs.Common.{◌≡◌, List, refl, sym, ap, ◌∙◌}
+use Rattle.std.proofs.Common.{◌≡◌, refl}
 use Rattle.std.specs.Prelude.{Option, Some, None}
 use Rattle.std.specs.Option.{option_map}
 use Rattle.std.specs.String.{IsUtf16Of}
 use Rattle.carrier_model.specs.Lookups.{Found}
-use Rattle.carrier_model.specs.Streams.{Stream}
 use Rattle.msg_model.specs.MsgMessage.{stream_or_empty}
 use Rattle.msg_model.specs.StreamNames.{NAME_MAP, GUID_STREAM, ENTRY_STREAM, TEXT_STREAM}
 use Rattle.msg_nameid.specs.Read.{stream_or_none}

@@ -1,5 +1,5 @@
 -- The units of bytes.
-use Rattle.std.proofs.Common.{◌≡◌, ℕ, zero, suc, ◌+◌, ◌*◌, ◌/◌, ◌%◌, ◌<◌, ◌≤◌, List, [], ◌∷◌, ◌++◌, length, take, drop, refl, sym, ap, ◌∙◌, arith, length-drop}
+use Rattle.std.proofs.Common.{◌≡◌, ℕ, zero, suc, ◌+◌, ◌*◌, ◌≤◌, List, [], ◌∷◌, ◌++◌, length, take, drop, refl, sym, ap, ◌∙◌, arith, length-drop}
 use Rattle.carrier_model.specs.Bytes.{number16, units_of}
 
 units_more : (k m p : ℕ) (b : List ℕ) → m ≡ 2 * k → p ≡ m + 2 → p ≤ length b → units_of (take p b) ≡ units_of (take m b) ++ number16 (drop m b) ∷ []

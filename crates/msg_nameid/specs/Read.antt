@@ -1,5 +1,5 @@
 -- The streams of a name map, and an entry that was read.
-use Rattle.std.specs.Prelude.{ℕ, List, [], Option, Some, None}
+use Rattle.std.specs.Prelude.{[], Option, Some, None}
 use Rattle.carrier_model.specs.Streams.{Stream}
 use Rattle.msg_model.specs.NameMap as model
 use Rattle.msg_nameid.specs.declared.entry.NameStreams.{NameStreams}

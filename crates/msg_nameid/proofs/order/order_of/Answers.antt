@@ -1,4 +1,4 @@
-use Rattle.std.proofs.Common.{◌∙◌, ℕ, List, map, sym, ap, subst}
+use Rattle.std.proofs.Common.{◌∙◌, map, sym, ap, subst}
 use Rattle.std.proofs.lemmas.Result.{IfOk-weaker}
 use Rattle.msg_nameid.specs.Maps.{pair_of}
 use Rattle.msg_nameid.specs.Orders.{IsOrderOf}

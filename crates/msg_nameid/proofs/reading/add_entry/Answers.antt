@@ -1,4 +1,4 @@
-use Rattle.std.proofs.Common.{◌≡◌, ◌∙◌, ℕ, ◌+◌, ◌<◌, ◌≤◌, true, false, Bool, List, [], ◌∷◌, ◌++◌, Ok, sym, ap, subst, arith}
+use Rattle.std.proofs.Common.{◌≡◌, ◌∙◌, ℕ, ◌+◌, true, false, [], ◌∷◌, ◌++◌, Ok, sym, ap, subst, arith}
 use Rattle.std.specs.Prelude.{◌||◌, nat_eq, Option, Some, None}
 use Rattle.std.specs.Option.{option_map}
 use Rattle.std.proofs.lemmas.List.{append-nil}
@@ -7,10 +7,10 @@ use Rattle.carrier_io.specs.declared.reasons.Stop.{Stop}
 use Rattle.carrier_io.specs.Reads.{Fails}
 use Rattle.carrier_model.specs.Chains.{member}
 use Rattle.carrier_model.specs.Keys.{Name}
-use Rattle.msg_model.specs.NameMap.{Given, Pair, named_by, given_by, property_index}
+use Rattle.msg_model.specs.NameMap.{named_by, given_by, property_index}
 use Rattle.prop_names.specs.Meaning.{name_of}
 use Rattle.prop_names.specs.declared.names.Name as rust
-use Rattle.msg_nameid.specs.Drafts.{IsDraftOf, pairs_in}
+use Rattle.msg_nameid.specs.Drafts.{pairs_in}
 use Rattle.msg_nameid.specs.Read.{streams_seen, entry_seen}
 use Rattle.msg_nameid.specs.Tables.{slot_at, is_taken}
 use Rattle.msg_nameid.proofs.DraftLaws.{indexes, index_fails, double_fails, name_fails, name_gives, draft_more}

@@ -1,5 +1,5 @@
-use Rattle.std.proofs.Common.{◌*◌, ◌+◌, ◌∙◌, ap, [], length, arith, length-append}
-use Rattle.std.specs.Prelude.{List, ◌∷◌, ℕ}
+use Rattle.std.proofs.Common.{ap, [], length, arith, length-append}
+use Rattle.std.specs.Prelude.{◌∷◌, ℕ}
 use Rattle.cfb_sectors.specs.Seen.{bytes_of}
 use Rattle.msg_nameid.proofs.TextLaws.{unit_more}
 use Rattle.msg_nameid.proofs.texts.units_at.Goals as goal

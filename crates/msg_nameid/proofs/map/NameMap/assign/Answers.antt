@@ -1,10 +1,10 @@
-use Rattle.std.proofs.Common.{◌≡◌, ◌∙◌, ℕ, ◌+◌, ◌<◌, ◌≤◌, Bool, List, [], ◌∷◌, ◌++◌, get_or, length, false, sym, ap, subst, take_all, arith}
-use Rattle.std.specs.Prelude.{◌||◌, nat_eq}
+use Rattle.std.proofs.Common.{◌≡◌, ◌∙◌, ◌+◌, ◌<◌, ◌≤◌, Bool, [], ◌∷◌, ◌++◌, length, sym, ap, subst, take_all, arith}
+use Rattle.std.specs.Prelude.{◌||◌}
 use Rattle.std.proofs.lemmas.Bool.{ne_eqb}
 use Rattle.std.proofs.lemmas.Option.{get_or_from_slice_get}
 use Rattle.std.proofs.lemmas.Result.{IfOk-weaker}
 use Rattle.carrier_model.specs.Keys.{Name}
-use Rattle.msg_model.specs.NameMap.{Pair, pairs_from}
+use Rattle.msg_model.specs.NameMap.{pairs_from}
 use Rattle.prop_names.specs.Meaning.{name_of}
 use Rattle.msg_nameid.specs.Drafts.{pairs_in}
 use Rattle.msg_nameid.specs.Maps.{IsAssigned}

@@ -1,8 +1,8 @@
 use Rattle.std.proofs.Common.{◌≡◌, ◌∙◌, ℕ, ◌-◌, ◌<◌, List, get_or, length, map, refl, sym, ap, subst, arith}
-use Rattle.std.specs.Prelude.{Option, Some, None, slice_get}
+use Rattle.std.specs.Prelude.{Some, None, slice_get}
 use Rattle.std.proofs.lemmas.List.{length-map}
 use Rattle.std.proofs.lemmas.Option.{slice_get_read}
-use Rattle.carrier_model.specs.Keys.{IsName, Name}
+use Rattle.carrier_model.specs.Keys.{IsName}
 use Rattle.carrier_model.proofs.Elements.{all_got, view_got}
 use Rattle.msg_model.specs.NameMap.{Pair, name_for}
 use Rattle.prop_names.specs.Meaning.{name_of}

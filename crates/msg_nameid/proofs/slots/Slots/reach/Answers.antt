@@ -1,4 +1,4 @@
-use Rattle.std.proofs.Common.{◌≡◌, ◌+◌, ◌-◌, ◌∙◌, ap, ◌++◌, length, take_all, List, arith}
+use Rattle.std.proofs.Common.{◌+◌, ◌-◌, ◌∙◌, ap, ◌++◌, take_all, List, arith}
 use Rattle.std.specs.Prelude.{replicate, vec_len}
 use Rattle.msg_nameid.specs.Tables.{count_taken}
 use Rattle.msg_nameid.specs.declared.slots.Slot.{Slot}
