@@ -11,3 +11,6 @@ mod texts;
 mod writing;
 
 pub use map::NameMap;
+
+#[cfg(test)]
+mod tests;
