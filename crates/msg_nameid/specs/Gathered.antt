@@ -1,8 +1,10 @@
 -- The streams of a name map, as far as its names were added to them one by one.
 use Rattle.std.specs.Prelude.{ℕ, ◌+◌, ◌-◌, ◌*◌, ◌%◌, ◌||◌, if◌then◌else◌, Bool, false, List, [], ◌∷◌, ◌++◌, length, filter, replicate, get_or, slice_get, slice_set, bit_xor, bytes_eq, Option, Some, None}
+use Rattle.std.specs.List.{flat_map}
 use Rattle.carrier_model.specs.Bytes.{le32}
+use Rattle.carrier_model.specs.FileTrees.{FileTree, streams_from}
 use Rattle.carrier_model.specs.Keys.{Name, set_of}
-use Rattle.msg_model.specs.StreamNames.{value_name}
+use Rattle.msg_model.specs.StreamNames.{GUID_STREAM, ENTRY_STREAM, TEXT_STREAM, value_name}
 use Rattle.msg_model.specs.WrittenNames.{PS_MAPI, PS_PUBLIC_STRINGS, is_fixed_set, text_of, label_number, kind_bit, hash_number, has_bytes}
 
 -- The property sets, the bytes of the entries and of the texts, and those of each hash stream.
@@ -74,3 +76,11 @@ named_from b (bytes ∷ more) = (value_name ((0x1000 + b) * 65536 + 0x0102), byt
 -- those that are not empty
 abbrev pub hash_files : List (List ℕ) → List (List ℕ × List ℕ)
 hash_files hashes = filter has_bytes (named_from 0 hashes)
+
+-- the streams, each with its name
+unfoldable pub files_gathered : Gathered → FileTree
+files_gathered g = streams_from (
+    (GUID_STREAM, flat_map (λ set. set) g.sets)
+    ∷ (ENTRY_STREAM, g.entries)
+    ∷ (TEXT_STREAM, g.texts)
+    ∷ hash_files g.hashes)

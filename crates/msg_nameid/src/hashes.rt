@@ -85,11 +85,11 @@ fn cyclic_sum(units: &[u16]) -> u32
 fn sum_byte(sum: u32, byte: u8) -> u32
     ensures { result ≡ written.sum_byte sum byte }
 {
-    let mut sum = sum ^ u32::from(byte);
-    for _ in 0..8 {
-        sum = sum_bit(sum);
+    let mut state = sum ^ u32::from(byte);
+    for _ in 0..8_u32 {
+        state = sum_bit(state);
     }
-    sum
+    state
 }
 
 /// One bit of a cyclic sum with the reflected polynomial EDB88320.
