@@ -1,14 +1,16 @@
 -- What is gathered name by name is what the definitions say of all names.
 use Rattle.std.proofs.Common.{◌≡◌, ℕ, zero, suc, ◌+◌, ◌*◌, ◌<◌, ◌≢◌, Bool, true, false, cond, eqb, List, [], ◌∷◌, ◌++◌, length, map, get_or, refl, sym, ap, ◌∙◌, append_assoc, arith}
-use Rattle.std.specs.Prelude.{slice_set, filter, bit_xor, ◌%◌}
+use Rattle.std.specs.Prelude.{slice_set, filter, bit_xor, ◌%◌, Result, Ok, Err, OnOk}
 use Rattle.std.specs.List.{flat_map, range_with_len}
 use Rattle.std.proofs.lemmas.Bool.{eqb-true, eq-eqb}
 use Rattle.std.proofs.lemmas.List.{append-nil, length-append, length-set, get_or-set_same, get_or-set_other, get_or-replicate}
 use Rattle.carrier_model.specs.Bytes.{le32}
-use Rattle.carrier_model.specs.FileTrees.{streams_from}
+use Rattle.carrier_model.specs.FileTrees.{FileTree, storage, no_file, streams_from, NO_CLASS}
 use Rattle.carrier_model.specs.Keys.{Name, set_of, name_cmp}
 use Rattle.carrier_model.specs.Sorted.{IsStrictlySorted}
-use Rattle.msg_model.specs.StreamNames.{GUID_STREAM, ENTRY_STREAM, TEXT_STREAM, value_name}
+use Rattle.cfb_list.specs.Grown.{grown}
+use Rattle.cfb_list.specs.Listed.{Listed}
+use Rattle.msg_model.specs.StreamNames.{NAME_MAP, GUID_STREAM, ENTRY_STREAM, TEXT_STREAM, value_name}
 use Rattle.msg_model.specs.WrittenNames.{sets_of, set_word, kind_bit, text_of, text_stream, label_number, entries_from, hash_number, bucket_entries, hash_stream, hash_streams, has_bytes, name_map_files}
 use Rattle.msg_nameid.specs.Gathered.{Gathered, nothing, last_word, with_hash, with_name, gathered, named_from, hash_files, files_gathered}
 use Rattle.msg_nameid.proofs.SetLists.{Fit, fit_next, fit_none, index_is, sets_are, sets_grow}
@@ -103,3 +105,13 @@ files_are names s =
     λ j lt. (let few : j < 31 = omega (arith, long, lt) in hashes_are nothing 0 names j few f ∙ (ap (λ l. l ++ bucket_entries all.sets j 0 names) (get_or-replicate 31 j [] [] few) ∙ (ap (λ (l : List (List ℕ)). bucket_entries l j 0 names) sets ∙ ap (λ i. bucket_entries (sets_of names) i 0 names) (let z : j ≡ 0 + j = omega arith in z)))) in
     let hashes : hash_files all.hashes ≡ hash_streams names = ap (filter has_bytes) (named_are names 0 all.hashes each ∙ ap (λ n. map (hash_stream names) (range_with_len 0 n)) long) in
     λ i. streams_from ((GUID_STREAM, guids i) ∷ (ENTRY_STREAM, entries i) ∷ (TEXT_STREAM, texts i) ∷ hashes i)
+
+-- the storage of gathered streams is the storage of the names
+pub storage_is : (first last : Listed) (g : Gathered) (names : List Name) → IsStrictlySorted name_cmp names → g ≡ gathered nothing 0 names → last ≡ record first { storages = grown first.storages 0 (storage NAME_MAP NO_CLASS (files_gathered g) no_file) } → last ≡ record first { storages = grown first.storages 0 (storage NAME_MAP NO_CLASS (name_map_files names) no_file) }
+storage_is first last g names s e h =
+    let files : files_gathered g ≡ name_map_files names = ap files_gathered e ∙ files_are names s in
+    h ∙ ap {B = Listed} (λ (f : FileTree). record first { storages = grown first.storages 0 (storage NAME_MAP NO_CLASS f no_file) }) files
+
+pub storage_ok : {T E : Type 0} (r : Result T E) (first last : Listed) (g : Gathered) (names : List Name) → IsStrictlySorted name_cmp names → g ≡ gathered nothing 0 names → OnOk r (last ≡ record first { storages = grown first.storages 0 (storage NAME_MAP NO_CLASS (files_gathered g) no_file) }) → OnOk r (last ≡ record first { storages = grown first.storages 0 (storage NAME_MAP NO_CLASS (name_map_files names) no_file) })
+storage_ok (Ok x) first last g names s e h = storage_is first last g names s e h
+storage_ok (Err x) first last g names s e h = tt
