@@ -1,7 +1,9 @@
 use crate::gathering::Streams;
 use crate::hashes::hash_number;
+use crate::map::NameMap;
 use carrier_io::Units;
-use prop_names::{Guid, Name};
+use cfb_list::{Content, File, FileList, Kind};
+use prop_names::{Guid, Name, NameSet};
 use std::alloc::Global;
 use std::test::*;
 
@@ -15,16 +17,23 @@ const STRINGS: Guid = Guid([
     0x29, 0x03, 0x02, 0x00, 0x00, 0x00, 0x00, 0x00, 0xC0, 0x00, 0x00, 0x00, 0x00, 0x00, 0x00, 0x46,
 ]);
 
-fn text(alloc: Global, set: Guid, letter: u16) -> Result<Name, Fail> {
+fn text(alloc: Global, set: Guid, unit: u16) -> Result<Name, Fail> {
     let mut units = Units::new(alloc);
-    units.push(letter).ok().ok_or("no memory")?;
+    units.push(unit).ok().ok_or("no memory")?;
     Ok(Name::Text { set, units })
 }
 
 #[test]
-fn a_text_is_hashed(rt: HostRuntime) -> Result<(), Fail> {
-    let name = text(rt.alloc(), STRINGS, 0x41)?;
-    assert_eq!(rt; hash_number(&name), 0);
+fn texts_are_hashed(rt: HostRuntime) -> Result<(), Fail> {
+    let rows = [
+        (0x8000, 0xEDB8_8320),
+        (0x0080, 0x3B83_984B),
+        (0x0041, 0xE962_7E44),
+    ];
+    for (unit, sum) in rows {
+        let name = text(rt.alloc(), STRINGS, unit)?;
+        assert_eq!(rt; hash_number(&name), sum);
+    }
     Ok(())
 }
 
@@ -46,9 +55,45 @@ fn streams_of_two_names(rt: HostRuntime) -> Result<(), Fail> {
         &[0x0D, 0x82, 0, 0, 6, 0, 0, 0, 0, 0, 0, 0, 5, 0, 1, 0][..]
     );
     assert_eq!(rt; streams.texts.as_slice(), &[2, 0, 0, 0, 0x41, 0, 0, 0][..]);
-    assert_eq!(rt;
-        streams.hashes.streams[28].as_slice(),
-        &[0x0D, 0x82, 0, 0, 6, 0, 0, 0][..]
-    );
+    Ok(())
+}
+
+/// What a stream with a name has.
+fn bytes_of<'f>(file: &'f File<'_, Vec<u8>>, name: &str) -> Option<&'f [u8]> {
+    let mut same = file.name.len() == name.len();
+    for (unit, byte) in file.name.iter().zip(name.as_bytes()) {
+        same = same && *unit == u16::from(*byte);
+    }
+    match &file.kind {
+        Kind::Stream(Content::Own(bytes)) if same => Some(bytes),
+        _ => None,
+    }
+}
+
+#[test]
+fn the_storage_of_one_name(rt: HostRuntime) -> Result<(), Fail> {
+    let alloc = rt.alloc();
+    let number = Name::Number {
+        set: APPOINTMENT,
+        number: 0x820D,
+    };
+    let mut names = NameSet::new(alloc);
+    names.insert(&number).ok().ok_or("no memory")?;
+    let map = NameMap::assign(alloc, &names).ok().ok_or("no memory")?;
+    let mut files: FileList<'_, Vec<u8>> = FileList::new(alloc).ok().ok_or("no memory")?;
+    map.add_streams(alloc, &mut files).ok().ok_or("no memory")?;
+    let entry = &[0x0D, 0x82, 0, 0, 6, 0, 0, 0][..];
+    let rows = [
+        ("__substg1.0_00020102", &APPOINTMENT.0[..]),
+        ("__substg1.0_00030102", entry),
+        ("__substg1.0_00040102", &[][..]),
+        ("__substg1.0_101C0102", entry),
+    ];
+    assert_eq!(rt; files.count(), 2);
+    let streams = files.files_in(1);
+    assert_eq!(rt; streams.len(), rows.len());
+    for (stream, (name, bytes)) in streams.iter().zip(rows) {
+        assert_eq!(rt; bytes_of(stream, name), Some(bytes));
+    }
     Ok(())
 }
