@@ -2,7 +2,9 @@
 use Rattle.std.proofs.Common.{◌≡◌, ℕ, ◌+◌, ◌*◌, ◌<◌, ◌≤◌, Bool, true, false, cond, List, [], ◌∷◌, ◌++◌, length, map, take, take_all, get_or, refl, sym, ap, ◌∙◌, arith}
 use Rattle.std.specs.Prelude.{filter}
 use Rattle.std.specs.List.{flat_map}
-use Rattle.std.proofs.lemmas.List.{length-set, length-append, length-map, length-take, take_more, map_push}
+use Rattle.std.proofs.lemmas.List.{length-set, length-map, length-take, take_more, map_push}
+use Rattle.std.proofs.lemmas.List.Elements.{filter-append}
+use Rattle.std.proofs.lemmas.Simd.{map-map}
 use Rattle.carrier_model.specs.FileTrees.{NO_CLASS, no_file, streams_from}
 use Rattle.carrier_model.specs.FileTrees as trees
 use Rattle.carrier_model.specs.Keys.{Name}
@@ -32,24 +34,12 @@ gathered_more f items k e now new lt at is more =
     ∙ (ap (λ j. with_name (gathered nothing 0 front) j (f e)) (let z : k ≡ 0 + length front = omega (arith, long) in z)
     ∙ (sym (gathered_push nothing 0 front (f e)) ∙ ap (gathered nothing 0) (sym all))))
 
-map_twice : {A B C : Type 0} (f : B → C) (g : A → B) (xs : List A) → map (λ x. f (g x)) xs ≡ map f (map g xs)
-map_twice f g [] = refl
-map_twice f g (x ∷ xs) = ap (λ l. f (g x) ∷ l) (map_twice f g xs)
-
 -- all names
 pub gathered_all : {E P : Type 0} (second : P → Name) (pair : E → P) (entries items : List E) (pairs : List P) (k : ℕ) (now : Gathered) → length items ≤ k → items ≡ entries → map pair entries ≡ pairs → now ≡ gathered nothing 0 (map (λ e. second (pair e)) (take k items)) → now ≡ gathered nothing 0 (map second pairs)
 gathered_all second pair entries items pairs k now le same seen is =
-    is ∙ ap (gathered nothing 0) (ap (map (λ e. second (pair e))) (take_all k items le) ∙ (map_twice second pair items ∙ ap (map second) (ap (map pair) same ∙ seen)))
+    is ∙ ap (gathered nothing 0) (ap (map (λ e. second (pair e))) (take_all k items le) ∙ (sym (map-map second pair items) ∙ ap (map second) (ap (map pair) same ∙ seen)))
 
 -- ---- streams
-
-filter_append : {A : Type 0} (p : A → Bool) (xs ys : List A) → filter p (xs ++ ys) ≡ filter p xs ++ filter p ys
-filter_append p [] ys = refl
-filter_append p (x ∷ xs) ys = by (p x) (filter_append p xs ys)
-  where
-    by : (b : Bool) → filter p (xs ++ ys) ≡ filter p xs ++ filter p ys → cond b (x ∷ filter p (xs ++ ys)) (filter p (xs ++ ys)) ≡ cond b (x ∷ filter p xs) (filter p xs) ++ filter p ys
-    by true e = ap (λ l. x ∷ l) e
-    by false e = e
 
 long_with : (storages : List (List Child)) (at : ℕ) (child : Child) → length (with_child storages at child) ≡ length storages
 long_with storages at child = length-set storages at (children_at storages at ++ child ∷ [])
@@ -81,7 +71,7 @@ hash_added of first now last at tag vs v t p q =
     let one : List Named = (value_name tag, of v) ∷ [] in
     let number : tag ≡ (0x1000 + (0 + length (map of vs))) * 65536 + 0x0102 = omega (arith, t, length-map vs of) in
     let parts : hash_files (map of (vs ++ v ∷ [])) ≡ filter has_bytes front ++ filter has_bytes one =
-    ap hash_files (map_push of vs v) ∙ (ap (filter has_bytes) (named_push 0 (map of vs) (of v) ∙ ap (λ n. front ++ (value_name n, of v) ∷ []) (sym number)) ∙ filter_append has_bytes front one) in
+    ap hash_files (map_push of vs v) ∙ (ap (filter has_bytes) (named_push 0 (map of vs) (of v) ∙ ap (λ n. front ++ (value_name n, of v) ∷ []) (sym number)) ∙ filter-append has_bytes front one) in
     let root : last.root_class ≡ first.root_class = ap (λ (l : Listed). l.root_class) q ∙ ap (λ (l : Listed). l.root_class) p in
     let all : last.storages ≡ grown first.storages at (streams_from (hash_files (map of (vs ++ v ∷ [])))) =
     ap (λ (l : Listed). l.storages) q ∙ (ap (λ (l : Listed). grown l.storages at (streams_from (filter has_bytes one))) p ∙ (grown_append first.storages at (filter has_bytes front) (filter has_bytes one) ∙ ap (λ l. grown first.storages at (streams_from l)) (sym parts))) in

@@ -1,7 +1,7 @@
 -- Steps of a cyclic sum and of hash streams.
 use Rattle.std.proofs.Common.{◌≡◌, ℕ, zero, suc, ◌+◌, ◌-◌, ◌<◌, List, [], ◌++◌, length, map, get_or, sym, ap, ◌∙◌, refl, arith}
 use Rattle.std.specs.Prelude.{slice_set, bit_xor}
-use Rattle.std.proofs.lemmas.List.{map-set, get_or-map, length-map}
+use Rattle.std.proofs.lemmas.List.{map-set, get_or-map}
 use Rattle.msg_model.specs.WrittenNames.{sum_bit, sum_byte}
 use Rattle.msg_nameid.specs.Gathered.{with_hash}
 

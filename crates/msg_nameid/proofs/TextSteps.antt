@@ -1,5 +1,5 @@
 -- The texts of names, written.
-use Rattle.std.proofs.Common.{◌≡◌, ℕ, ◌+◌, ◌*◌, ◌%◌, ◌<◌, ◌≤◌, List, [], ◌∷◌, ◌++◌, length, take, drop, take_all, replicate, get_or, add-one, drop-cons, refl, sym, ap, ◌∙◌, append_assoc, arith}
+use Rattle.std.proofs.Common.{◌≡◌, ℕ, ◌+◌, ◌*◌, ◌%◌, ◌<◌, ◌≤◌, List, ◌∷◌, ◌++◌, length, take, drop, take_all, replicate, get_or, add-one, drop-cons, sym, ap, ◌∙◌, append_assoc, arith}
 use Rattle.carrier_model.specs.Bytes.{le16, le32, pad4}
 use Rattle.carrier_model.proofs.Units.{length-units}
 use Rattle.msg_model.specs.WrittenNames.{name_units, text_entry, cyclic_sum, sum_byte}

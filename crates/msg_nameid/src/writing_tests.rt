@@ -58,15 +58,15 @@ fn streams_of_two_names(rt: HostRuntime) -> Result<(), Fail> {
     Ok(())
 }
 
-/// What a stream with a name has.
-fn bytes_of<'f>(file: &'f File<'_, Vec<u8>>, name: &str) -> Option<&'f [u8]> {
+/// Whether a stream has this name and these bytes.
+fn is_stream(file: &File<'_, Vec<u8>>, name: &str, bytes: &[u8]) -> bool {
     let mut same = file.name.len() == name.len();
     for (unit, byte) in file.name.iter().zip(name.as_bytes()) {
         same = same && *unit == u16::from(*byte);
     }
     match &file.kind {
-        Kind::Stream(Content::Own(bytes)) if same => Some(bytes),
-        _ => None,
+        Kind::Stream(Content::Own(own)) => same && own.as_slice() == bytes,
+        _ => false,
     }
 }
 
@@ -82,18 +82,13 @@ fn the_storage_of_one_name(rt: HostRuntime) -> Result<(), Fail> {
     let map = NameMap::assign(alloc, &names).ok().ok_or("no memory")?;
     let mut files: FileList<'_, Vec<u8>> = FileList::new(alloc).ok().ok_or("no memory")?;
     map.add_streams(alloc, &mut files).ok().ok_or("no memory")?;
-    let entry = &[0x0D, 0x82, 0, 0, 6, 0, 0, 0][..];
-    let rows = [
-        ("__substg1.0_00020102", &APPOINTMENT.0[..]),
-        ("__substg1.0_00030102", entry),
-        ("__substg1.0_00040102", &[][..]),
-        ("__substg1.0_101C0102", entry),
-    ];
     assert_eq!(rt; files.count(), 2);
     let streams = files.files_in(1);
-    assert_eq!(rt; streams.len(), rows.len());
-    for (stream, (name, bytes)) in streams.iter().zip(rows) {
-        assert_eq!(rt; bytes_of(stream, name), Some(bytes));
-    }
+    assert_eq!(rt; streams.len(), 4);
+    let entry = [0x0D, 0x82, 0, 0, 6, 0, 0, 0];
+    assert!(rt; is_stream(&streams[0], "__substg1.0_00020102", &APPOINTMENT.0));
+    assert!(rt; is_stream(&streams[1], "__substg1.0_00030102", &entry));
+    assert!(rt; is_stream(&streams[2], "__substg1.0_00040102", &[]));
+    assert!(rt; is_stream(&streams[3], "__substg1.0_101C0102", &entry));
     Ok(())
 }

@@ -1,4 +1,4 @@
-use Rattle.std.proofs.Common.{◌∙◌, arith}
+use Rattle.std.proofs.Common.{◌∙◌}
 use Rattle.msg_nameid.proofs.TextSteps.{unit_summed}
 use Rattle.msg_nameid.proofs.hashes.cyclic_sum.Goals as goal
 

@@ -1,4 +1,3 @@
-use Rattle.std.proofs.Common.{arith}
 use Rattle.msg_nameid.specs.Maps.{pair_of}
 use Rattle.prop_names.specs.Meaning.{name_of}
 use Rattle.msg_nameid.specs.declared.map.Entry.{Entry}
