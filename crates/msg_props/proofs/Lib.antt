@@ -1,0 +1,10 @@
+pub mod Doubles
+pub mod DraftForms
+pub mod ElementForms
+pub mod KindNumbers
+pub mod NameForms
+pub mod NumberForms
+pub mod PieceForms
+pub mod ScanForms
+pub mod StoredForms
+pub mod ValueForms

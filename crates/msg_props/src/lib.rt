@@ -1,7 +1,15 @@
 //! Property lists of .msg files, read and written. [MS-OXMSG 2.4]
 #![tactic(auto)]
 
+mod elements;
+mod entries;
+mod items;
 mod reading;
+mod single_numbers;
+mod stored;
+mod stream_names;
+mod tags;
+mod values;
 mod writing;
 
 pub use reading::{Section, read_props};
