@@ -1,0 +1,4 @@
+pub mod WrittenFields
+pub mod TaggedLists
+pub mod AddedStreams
+pub mod WrittenEntries

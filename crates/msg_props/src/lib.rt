@@ -2,6 +2,10 @@
 #![tactic(auto)]
 
 mod reading;
+mod write_entries;
+mod write_streams;
+mod write_tags;
+mod write_values;
 mod writing;
 
 pub use reading::{Section, read_props};
