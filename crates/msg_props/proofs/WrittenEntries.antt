@@ -1,14 +1,22 @@
 -- The entries of a list, by tags that were found before.
-use Rattle.std.proofs.Common.{◌≡◌, ℕ, ◌-◌, List, ◌++◌, Option, Some, None, Result, length, map, take, drop, take_all, not, sym, ap, subst, ◌∙◌, append_assoc, arith}
-use Rattle.std.specs.Prelude.{filter, OnOk}
+use Rattle.std.proofs.Common.{◌≡◌, ℕ, ◌+◌, ◌-◌, ◌<◌, ◌≤◌, List, ◌++◌, Option, Some, None, Result, length, map, take, drop, take_all, get_or, not, refl, sym, ap, subst, ◌∙◌, append_assoc, arith}
+use Rattle.std.specs.Prelude.{filter, slice_get, OnOk}
 use Rattle.std.specs.List.{flat_map}
 use Rattle.std.proofs.lemmas.List.{length-drop}
+use Rattle.std.proofs.lemmas.Option.{slice_get-get_or}
 use Rattle.carrier_model.specs.Keys.{Name}
 use Rattle.carrier_model.specs.Kinds.{comes_before_object}
 use Rattle.carrier_model.specs.Values.{Prop}
 use Rattle.msg_model.specs.WrittenMsg.{tag_of, entry_bytes, entries_bytes, object_entry}
 use Rattle.msg_props.specs.Tagged.{tagged_entry, tagged_range}
-use Rattle.msg_props.proofs.TaggedLists.{range_flat}
+use Rattle.msg_props.proofs.TaggedLists.{range_flat, range_at, loop_more}
+
+-- one entry more
+pub range_more : (from to k : ℕ) (tags : List ℕ) (props : List Prop) (p : Prop) (old now next : List ℕ) → k < to - from → to ≤ length props → length tags ≡ length props → slice_get props (from + k) ≡ Some p → now ≡ old ++ flat_map tagged_entry (take k (tagged_range from to tags props)) → next ≡ now ++ tagged_entry (get_or tags (from + k) 0, p) → next ≡ old ++ flat_map tagged_entry (take (k + 1) (tagged_range from to tags props))
+range_more from to k tags props p old now next lt within each at e f =
+    let t = get_or tags (from + k) 0 in
+    let here = range_at from to tags props k t p lt (slice_get-get_or tags (from + k) 0 (omega (arith, lt, within, each))) at in
+    loop_more tagged_entry (tagged_range from to tags props) k (t, p) old now next (tagged_entry (t, p)) here e f (refl {a = tagged_entry (t, p)})
 
 all_entries : (names : List Name) (tags : List ℕ) (props : List Prop) (n : ℕ) → n ≡ length props → tags ≡ map (tag_of names) props → flat_map tagged_entry (tagged_range 0 n tags props) ≡ flat_map (entry_bytes names) props
 all_entries names tags props n is t =

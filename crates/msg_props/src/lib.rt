@@ -10,3 +10,6 @@ mod writing;
 
 pub use reading::{Section, read_props};
 pub use writing::{Head, add_props};
+
+#[cfg(test)]
+mod writing_tests;

@@ -1,13 +1,8 @@
-use Rattle.std.proofs.Common.{◌+◌, get_or, refl, arith}
-use Rattle.std.proofs.lemmas.Option.{slice_get-get_or}
-use Rattle.msg_props.specs.Tagged.{tagged_entry, tagged_range}
-use Rattle.msg_props.proofs.TaggedLists.{loop_more, range_at}
+use Rattle.std.proofs.Common.{arith}
+use Rattle.msg_props.proofs.WrittenEntries.{range_more}
 use Rattle.msg_props.proofs.write_entries.append_range.Goals as goal
 
 pub loop-k-preserved : goal.loop-k-preserved
 loop-k-preserved g c =
-    let from = c.args.from in
-    let tags = c.args.tags.now in
-    let k = c.loop-k.k in
-    let at = range_at from c.args.to tags c.args.props.now k (get_or tags (from + k) 0) c.get.result.now (omega (arith, c.loop-k-test.true)) (slice_get-get_or tags (from + k) 0 (omega (arith, c.loop-k-test.true, c.requires.each, c.requires.within))) c.get.ensures in
-    loop_more tagged_entry (tagged_range from c.args.to tags c.args.props.now) k _ c.args.out.now.items _ _ _ at c.loop-k.invariant c.in_ok-append_entry.ensures (refl {a = tagged_entry (get_or tags (from + k) 0, c.get.result.now)})
+    range_more c.args.from c.args.to c.loop-k.k c.args.tags.now c.args.props.now c.get.result.now c.args.out.now.items c.loop-k.out.items _
+    (omega (arith, c.loop-k-test.true)) c.requires.within c.requires.each c.get.ensures c.loop-k.invariant c.in_ok-append_entry.ensures
