@@ -1,6 +1,6 @@
 -- A list of storages to which streams are added.
 use Rattle.std.proofs.Common.{◌≡◌, ℕ, suc, zero, ◌+◌, ◌<◌, ◌≤◌, List, [], ◌∷◌, ◌++◌, Some, length, take, take_all, map, Option, refl, sym, ap, subst, ◌∙◌, Result, arith}
-use Rattle.std.specs.Prelude.{slice_get, OnOk}
+use Rattle.std.specs.Prelude.{slice_get, replicate, OnOk}
 use Rattle.std.specs.List.{flat_map, zip}
 use Rattle.carrier_model.specs.FileTrees.{FileTree, and_files, streams_from, stream}
 use Rattle.carrier_model.proofs.Messages.{taken_at}
@@ -8,6 +8,7 @@ use Rattle.cfb_list.specs.Grown.{grown, storages_in}
 use Rattle.cfb_list.specs.Listed.{Child, Listed}
 use Rattle.msg_model.specs.StreamNames.{element_name, value_name}
 use Rattle.carrier_model.specs.Keys.{Name}
+use Rattle.carrier_model.specs.Kinds.{null_of}
 use Rattle.carrier_model.specs.Stores.{PROPERTIES}
 use Rattle.carrier_model.specs.Values.{Prop}
 use Rattle.msg_model.specs.WrittenMsg.{tag_of, with_null, element_streams, entries_bytes, props_streams, list_files}
@@ -39,7 +40,7 @@ streams_joined [] ys = refl
 streams_joined (x ∷ xs) ys = ap (stream x.0 x.1) (streams_joined xs ys)
 
 -- streams behind others
-pub streams_more : Steps → (first now last : Listed) (at : ℕ) (xs ys all : Streams) → all ≡ xs ++ ys → now ≡ with_streams first at xs → last ≡ with_streams now at ys → last ≡ with_streams first at all
+streams_more : Steps → (first now last : Listed) (at : ℕ) (xs ys all : Streams) → all ≡ xs ++ ys → now ≡ with_streams first at xs → last ≡ with_streams now at ys → last ≡ with_streams first at all
 streams_more steps first now last at xs ys all is p q =
     let root : last.root_class ≡ first.root_class = ap (λ (l : Listed). l.root_class) q ∙ ap (λ (l : Listed). l.root_class) p in
     let both : last.storages ≡ grown first.storages at (streams_from all) =
@@ -72,12 +73,18 @@ taken_length (y ∷ ys) zero x at = refl
 taken_length (y ∷ ys) (suc k) x at = ap suc (taken_length ys k x at)
 
 -- one element more
-pub elements_more : (tag kind : ℕ) (xs : List (List ℕ)) (k : ℕ) (x : List ℕ) → slice_get xs k ≡ Some x → element_streams tag kind 0 (take (k + 1) xs) ≡ element_streams tag kind 0 (take k xs) ++ (element_name tag k, with_null kind x) ∷ []
+elements_more : (tag kind : ℕ) (xs : List (List ℕ)) (k : ℕ) (x : List ℕ) → slice_get xs k ≡ Some x → element_streams tag kind 0 (take (k + 1) xs) ≡ element_streams tag kind 0 (take k xs) ++ (element_name tag k, with_null kind x) ∷ []
 elements_more tag kind xs k x at =
     let e : 0 + length (take k xs) ≡ k = omega (arith, taken_length xs k x at) in
     ap (element_streams tag kind 0) (taken_at xs k x at)
     ∙ elements_join tag kind 0 (take k xs) x
     ∙ ap (λ (n : ℕ). element_streams tag kind 0 (take k xs) ++ (element_name tag n, with_null kind x) ∷ []) e
+
+pub element_added : Steps → (first now last : Listed) (at tag kind k zeros : ℕ) (list : List (List ℕ)) (x name : List ℕ) → slice_get list k ≡ Some x → name ≡ element_name tag k → zeros ≡ null_of kind → now ≡ with_streams first at (element_streams tag kind 0 (take k list)) → last ≡ with_streams now at ((name, x ++ replicate zeros 0) ∷ []) → last ≡ with_streams first at (element_streams tag kind 0 (take (k + 1) list))
+element_added steps first now last at tag kind k zeros list x name is n z e f =
+    let one : Streams = (element_name tag k, with_null kind x) ∷ [] in
+    let same : (name, x ++ replicate zeros 0) ∷ [] ≡ one = λ i. (n i, x ++ replicate (z i) 0) ∷ [] in
+    streams_more steps first now last at (element_streams tag kind 0 (take k list)) one (element_streams tag kind 0 (take (k + 1) list)) (elements_more tag kind list k x is) e (f ∙ ap (with_streams now at) same)
 
 -- ---- the streams of one value
 

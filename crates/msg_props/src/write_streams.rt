@@ -1,5 +1,6 @@
 //! The streams of a list's values.
 ghost use Rattle.std.specs.Prelude.{◌≡◌, ◌<◌, ◌-◌, length, flat_map, zip, OnOk, All};
+ghost use Rattle.carrier_model.specs.KeyTexts.{hex_digits, upper};
 ghost use Rattle.carrier_model.specs.Values as plain;
 ghost use Rattle.msg_model.specs.StreamNames as stream_names;
 ghost use Rattle.msg_model.specs.WrittenMsg.{element_streams, value_streams};
@@ -14,33 +15,33 @@ use prop_names::upper_digits8;
 use prop_values::{Kind, Parts, Prop, Props, Value};
 use std::alloc::Global;
 
+/// Eight upper-case hexadecimal digits.
+fn digits(n: u32) -> [u16; 8]
+    ensures { result ≡ hex_digits upper 8 n }
+{
+    let d = upper_digits8(n);
+    [
+        u16::from(d[0]),
+        u16::from(d[1]),
+        u16::from(d[2]),
+        u16::from(d[3]),
+        u16::from(d[4]),
+        u16::from(d[5]),
+        u16::from(d[6]),
+        u16::from(d[7]),
+    ]
+}
+
 /// The name of the stream of a value: `__substg1.0_` and the eight digits of a tag. [MS-OXMSG 2.1.3]
 fn value_name(tag: u32) -> [u16; 20]
     ensures { result ≡ stream_names.value_name tag }
 {
-    let t = upper_digits8(tag);
-    [
-        0x5f,
-        0x5f,
-        0x73,
-        0x75,
-        0x62,
-        0x73,
-        0x74,
-        0x67,
-        0x31,
-        0x2e,
-        0x30,
-        0x5f,
-        u16::from(t[0]),
-        u16::from(t[1]),
-        u16::from(t[2]),
-        u16::from(t[3]),
-        u16::from(t[4]),
-        u16::from(t[5]),
-        u16::from(t[6]),
-        u16::from(t[7]),
-    ]
+    let mut name = [0; 20];
+    name[..12].copy_from_slice(&[
+        0x5f, 0x5f, 0x73, 0x75, 0x62, 0x73, 0x74, 0x67, 0x31, 0x2e, 0x30, 0x5f,
+    ]);
+    name[12..].copy_from_slice(&digits(tag));
+    name
 }
 
 /// The name of the stream of one of several texts: that of the value, a hyphen and the eight digits of its place.
@@ -48,39 +49,10 @@ fn value_name(tag: u32) -> [u16; 20]
 fn element_name(tag: u32, place: u32) -> [u16; 29]
     ensures { result ≡ stream_names.element_name tag place }
 {
-    let v = value_name(tag);
-    let p = upper_digits8(place);
-    [
-        v[0],
-        v[1],
-        v[2],
-        v[3],
-        v[4],
-        v[5],
-        v[6],
-        v[7],
-        v[8],
-        v[9],
-        v[10],
-        v[11],
-        v[12],
-        v[13],
-        v[14],
-        v[15],
-        v[16],
-        v[17],
-        v[18],
-        v[19],
-        0x2d,
-        u16::from(p[0]),
-        u16::from(p[1]),
-        u16::from(p[2]),
-        u16::from(p[3]),
-        u16::from(p[4]),
-        u16::from(p[5]),
-        u16::from(p[6]),
-        u16::from(p[7]),
-    ]
+    let mut name = [0x2d; 29];
+    name[..20].copy_from_slice(&value_name(tag));
+    name[21..].copy_from_slice(&digits(place));
+    name
 }
 
 /// Adds the streams of several texts or binaries, each with its null.
