@@ -8,3 +8,7 @@ pub mod PieceForms
 pub mod ScanForms
 pub mod StoredForms
 pub mod ValueForms
+pub mod WrittenFields
+pub mod TaggedLists
+pub mod AddedStreams
+pub mod WrittenEntries

@@ -4,3 +4,4 @@ pub mod Heads
 pub mod Items
 pub mod Scans
 pub mod Sections
+pub mod Tagged

@@ -10,7 +10,14 @@ mod stored;
 mod stream_names;
 mod tags;
 mod values;
+mod write_entries;
+mod write_streams;
+mod write_tags;
+mod write_values;
 mod writing;
 
 pub use reading::{Section, read_props};
 pub use writing::{Head, add_props};
+
+#[cfg(test)]
+mod writing_tests;

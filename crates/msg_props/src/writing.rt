@@ -6,8 +6,11 @@ ghost use Rattle.msg_model.specs.WrittenMsg.{list_files};
 ghost use Rattle.msg_nameid.specs.Maps.{IsAssigned, names_in};
 ghost use Rattle.msg_props.specs.Heads.{head_bytes};
 
+use crate::write_entries::property_stream;
+use crate::write_streams::add_values;
+use crate::write_tags::tags_of;
 use carrier_io::{Blob, NoMemory};
-use cfb_list::FileList;
+use cfb_list::{Content, FileList};
 use msg_nameid::NameMap;
 use prop_values::{Part, Props};
 use std::alloc::Global;
@@ -38,12 +41,8 @@ pub fn add_props<'t, B: Blob>(
     requires named { NamesAmong (names_in names.now) props.now }
     ensures { OnOk result (files.new ≡ record files.old { storages = grown files.old.storages at (list_files (names_in names.now) (head_bytes head) props.now object) }) }
 {
-    let _files = files;
-    let _alloc = alloc;
-    let _at = at;
-    let _head = head;
-    let _props = props;
-    let _object = object;
-    let _names = names;
-    Err(NoMemory)
+    let tags = tags_of(alloc, props, names)?;
+    let stream = property_stream(alloc, head, props, &tags, object)?;
+    files.add_stream(at, "__properties_version1.0", Content::Own(stream))?;
+    add_values(alloc, files, at, props, &tags)
 }
