@@ -1,0 +1,10 @@
+mod Adding
+mod Apart
+mod Bodies
+mod Digits
+mod Found
+mod Messages
+mod Parts
+mod Sorting
+mod Turned
+mod Unrolled

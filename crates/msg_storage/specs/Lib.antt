@@ -1,0 +1,4 @@
+pub mod Beside
+pub mod Levels
+pub mod Numbered
+pub mod Written
