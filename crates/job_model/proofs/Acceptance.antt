@@ -1,7 +1,7 @@
 -- Bytes are accepted as one message, or refused for one fault, for each job that takes them as they are.
 use Rattle.std.proofs.Common.{◌≡◌, inl, inr, ℕ, ◌≤◌, true, false, List, length, sym, ◌∙◌, refl, arith}
 use Rattle.std.specs.Prelude.{Bool}
-use Rattle.job_model.specs.Acceptance.{MessageBy, FaultBy, Accepts, FaultOf, TakesFor, FaultFor}
+use Rattle.job_model.specs.Acceptance.{MessageBy, FaultBy, CarriesMessage, MessageFault, Accepts, FaultOf, TakesFor, FaultFor}
 use Rattle.job_model.specs.Commands.{Job, to_msg, to_msg4, to_tnef, wrap}
 use Rattle.job_model.specs.Signatures.{is_signed, is_compound}
 use Rattle.carrier_model.specs.Reasons.{NOT_A_CARRIER}
@@ -35,6 +35,10 @@ by_front : (compound sign : Bool) (b : List ℕ) → sign ≡ is_signed b → le
 by_front true sign b is few = carriers_exact b few
 by_front false true b is few = tnef_exact b
 by_front false false b is few = none_exact b (sym is)
+
+-- in either form of a message
+pub forms_exact : (b : List ℕ) → length b ≤ MOST_BYTES → IsExact (CarriesMessage b) (MessageFault b)
+forms_exact b few = by_front (is_compound b) (is_signed b) b refl few
 
 -- the fault of too many bytes stands apart
 within : (job : Job) (b : List ℕ) → (length b ≤ MOST_BYTES → IsExact (TakesFor job b) (FaultFor job b)) → IsExact (Accepts job b) (FaultOf job b)

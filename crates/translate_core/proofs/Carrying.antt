@@ -9,6 +9,7 @@ use Rattle.job_model.specs.Targets.{IsResult, passed_limit}
 use Rattle.job_model.proofs.Results.{to_msg_carries, to_msg4_carries, to_tnef_carries}
 use Rattle.mail_model.specs.EnvelopeText.{envelope_of}
 use Rattle.tnef_model.proofs.TnefMessage.{message_exact}
+use Rattle.tnef_model.specs.TnefMessage.{TnefCarrier}
 use Rattle.translate_core.proofs.Exact.{Mails, one_payload}
 use Rattle.translate_core.specs.Jobs.{MakesAnew}
 
@@ -21,7 +22,7 @@ wrap_carries mails b m all a = record {
 unwrap_carries : Mails → (b w : List ℕ) (m : Meaning) → Accepts unwrap b m → IsResult unwrap m.message b w → Carries unwrap w m
 unwrap_carries mails b w m a is =
     let same = one_payload mails b w a.1.payload is a.1.carried in
-    let own = rw (← same) a.1.means in
+    let own : TnefCarrier w m.message m.passed = rw (← same) a.1.means in
     record { carried = own; only = λ other c. (message_exact GREATEST_LEVEL 0 w).one m other own c }
 
 pub carries : Mails → (job : Job) (b w : List ℕ) (m : Meaning) → AllBytes b → Accepts job b m → passed_limit job m.message b ≡ None → IsResult job m.message b w → Carries job w m

@@ -1,3 +1,5 @@
-mod Exact
 mod Carrying
+mod Exact
+mod Forms
+mod Limiting
 mod Telling

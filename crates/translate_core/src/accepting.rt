@@ -7,7 +7,7 @@ ghost use Rattle.msg_model.specs.MsgMessage.{file_meaning};
 ghost use Rattle.msg_tree.specs.Whole.{meaning_in};
 ghost use Rattle.translate_core.specs.Inputs.{meaning_of};
 
-use crate::carriers::{Carrier, carrier_of};
+use crate::carriers::{is_compound, is_signed};
 use carrier_io::{Fault, Reason, Stop, Walk};
 use cfb_directory::open_files;
 use cfb_sectors::StreamView;
@@ -24,6 +24,7 @@ pub enum Input<'a> {
 }
 
 /// The message of a .msg file.
+#[tactic(auto, unfolding(msg_model::specs::MsgMessage::file_meaning))]
 fn accept_msg<'a>(alloc: Global, bytes: &'a [u8]) -> Result<Accepted<StreamView<'a>>, Stop>
     requires { length bytes.now ≤ MOST_BYTES }
     ensures { Gives meaning_in result (file_meaning bytes.entry.now) }
@@ -39,12 +40,20 @@ pub fn accept<'a>(alloc: Global, bytes: &'a [u8]) -> Result<Input<'a>, Stop>
     requires { length bytes.now ≤ MOST_BYTES }
     ensures { Reads meaning_of result (CarriesMessage bytes.entry.now) (MessageFault bytes.entry.now) }
 {
-    match carrier_of(bytes) {
-        Some(Carrier::Msg) => Ok(Input::Msg(accept_msg(alloc, bytes)?)),
-        Some(_) => Ok(Input::Tnef(read_tnef(alloc, bytes)?)),
-        None => Err(Stop::Fault(Fault {
+    if is_compound(bytes) {
+        return match accept_msg(alloc, bytes) {
+            Ok(accepted) => Ok(Input::Msg(accepted)),
+            Err(stop) => Err(stop),
+        };
+    }
+    if !is_signed(bytes) {
+        return Err(Stop::Fault(Fault {
             reason: Reason::NotACarrier,
             offset: 0,
-        })),
+        }));
+    }
+    match read_tnef(alloc, bytes) {
+        Ok(accepted) => Ok(Input::Tnef(accepted)),
+        Err(stop) => Err(stop),
     }
 }

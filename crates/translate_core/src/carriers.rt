@@ -14,14 +14,14 @@ pub enum Carrier {
 }
 
 /// Whether the bytes begin as a compound file. [MS-CFB 2.2]
-fn is_compound(bytes: &[u8]) -> bool
+pub(crate) fn is_compound(bytes: &[u8]) -> bool
     ensures { result ≡ plain.is_compound bytes.now }
 {
     bytes.len() >= 8 && u32_at(bytes, 0) == 0xE011_CFD0 && u32_at(bytes, 4) == 0xE11A_B1A1
 }
 
 /// Whether the bytes begin as a TNEF stream. [MS-OXTNEF 2.1.3]
-fn is_signed(bytes: &[u8]) -> bool
+pub(crate) fn is_signed(bytes: &[u8]) -> bool
     ensures { result ≡ plain.is_signed bytes.now }
 {
     bytes.len() >= 4 && u32_at(bytes, 0) == 0x223E_9F78

@@ -5,8 +5,9 @@ ghost use Rattle.job_model.specs.Commands.{wrap as plain_wrap, unwrap as plain_u
 ghost use Rattle.translate_core.specs.Ends.{Caused, Tells, WritesNothing};
 
 use crate::ends::{End, stopped};
+use crate::laws::{inputs_are_exact, outputs_carry_their_message};
 use carrier_io::{Sink, write_gathered, write_pieces};
-use mime_envelope::{Wrapped, envelope_size, envelopes_are_exact, payload};
+use mime_envelope::{Wrapped, envelope_size, payload};
 use msg_tree::Limit;
 use std::alloc::Global;
 use tnef_message::read_tnef;
@@ -21,10 +22,12 @@ pub(crate) fn wrap<W: Sink>(alloc: Global, bytes: &[u8], sink: &mut W) -> Result
     ensures nothing { WritesNothing result sink.old sink.new }
     ensures cause { Caused (W.faults sink.old) (W.faults sink.new) result }
 {
-    envelopes_are_exact();
-    if let Err(stop) = read_tnef(alloc, bytes) {
-        return Err(stopped(stop));
-    }
+    inputs_are_exact();
+    outputs_carry_their_message();
+    let _accepted = match read_tnef(alloc, bytes) {
+        Ok(accepted) => accepted,
+        Err(stop) => return Err(stopped(stop)),
+    };
     let size = envelope_size(bytes.len() as u64);
     if size > MOST_BYTES {
         return Err(End::Unfit(Limit::Size(size)));
@@ -42,13 +45,16 @@ pub(crate) fn unwrap<W: Sink>(alloc: Global, bytes: &[u8], sink: &mut W) -> Resu
     ensures nothing { WritesNothing result sink.old sink.new }
     ensures cause { Caused (W.faults sink.old) (W.faults sink.new) result }
 {
+    inputs_are_exact();
+    outputs_carry_their_message();
     let stream = match payload(alloc, bytes) {
         Ok(stream) => stream,
         Err(stop) => return Err(stopped(stop)),
     };
-    if let Err(stop) = read_tnef(alloc, &stream) {
-        return Err(stopped(stop));
-    }
+    let _accepted = match read_tnef(alloc, &stream) {
+        Ok(accepted) => accepted,
+        Err(stop) => return Err(stopped(stop)),
+    };
     match write_pieces(sink, &stream) {
         Ok(()) => Ok(()),
         Err(_) => Err(End::WriteFault),

@@ -9,6 +9,7 @@ use crate::accepting::{Input, accept};
 use crate::ends::{End, stopped};
 use crate::files::write_msg;
 use crate::jobs::Job;
+use crate::laws::{inputs_are_exact, outputs_carry_their_message};
 use crate::mails::{unwrap, wrap};
 use crate::streams::write_tnef;
 use carrier_io::Sink;
@@ -27,6 +28,8 @@ fn to_msg<W: Sink>(
     ensures nothing { WritesNothing result sink.old sink.new }
     ensures cause { Caused (W.faults sink.old) (W.faults sink.new) result }
 {
+    inputs_are_exact();
+    outputs_carry_their_message();
     match accept(alloc, bytes) {
         Err(stop) => Err(stopped(stop)),
         Ok(Input::Msg(accepted)) => write_msg(alloc, version, &accepted.tree, sink),
@@ -41,6 +44,8 @@ fn to_tnef<W: Sink>(alloc: Global, bytes: &[u8], sink: &mut W) -> Result<(), End
     ensures nothing { WritesNothing result sink.old sink.new }
     ensures cause { Caused (W.faults sink.old) (W.faults sink.new) result }
 {
+    inputs_are_exact();
+    outputs_carry_their_message();
     match accept(alloc, bytes) {
         Err(stop) => Err(stopped(stop)),
         Ok(Input::Msg(accepted)) => write_tnef(alloc, &accepted.tree, sink),
