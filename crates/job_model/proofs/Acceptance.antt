@@ -1,9 +1,9 @@
 -- Bytes are accepted as one message, or refused for one fault, for each job that takes them as they are.
 use Rattle.std.proofs.Common.{◌≡◌, inl, inr, ℕ, ◌≤◌, true, false, List, length, sym, ◌∙◌, refl, arith}
 use Rattle.std.specs.Prelude.{Bool}
-use Rattle.job_model.specs.Acceptance.{MessageBy, FaultBy, JobAccepts, JobFault, TakesFor, FaultFor}
+use Rattle.job_model.specs.Acceptance.{MessageBy, FaultBy, CarriesMessage, MessageFault, Accepts, FaultOf, TakesFor, FaultFor}
 use Rattle.job_model.specs.Commands.{Job, to_msg, to_msg4, to_tnef, wrap}
-use Rattle.job_model.specs.Jobs.{is_signed, is_compound}
+use Rattle.job_model.specs.Signatures.{is_signed, is_compound}
 use Rattle.carrier_model.specs.Reasons.{NOT_A_CARRIER}
 use Rattle.carrier_model.specs.Bytes.{MOST_BYTES}
 use Rattle.carrier_model.specs.Meanings.{Meaning}
@@ -31,37 +31,41 @@ none_exact b unsigned = record {
   apart = λ m g p q. cc (signed b m p, unsigned);
 }
 
-by_front : (compound sign : Bool) (b : List ℕ) → sign ≡ is_signed b → length b ≤ MOST_BYTES → IsExact (λ (m : Meaning). MessageBy compound b m.message m.passed) (FaultBy compound sign b)
+by_front : (compound sign : Bool) (b : List ℕ) → sign ≡ is_signed b → length b ≤ MOST_BYTES → IsExact (MessageBy compound b) (FaultBy compound sign b)
 by_front true sign b is few = carriers_exact b few
 by_front false true b is few = tnef_exact b
 by_front false false b is few = none_exact b (sym is)
 
+-- in either form of a message
+pub forms_exact : (b : List ℕ) → length b ≤ MOST_BYTES → IsExact (CarriesMessage b) (MessageFault b)
+forms_exact b few = by_front (is_compound b) (is_signed b) b refl few
+
 -- the fault of too many bytes stands apart
-within : (job : Job) (b : List ℕ) → (length b ≤ MOST_BYTES → IsExact (λ (m : Meaning). TakesFor job b m.message m.passed) (FaultFor job b)) → IsExact (λ (m : Meaning). JobAccepts job b m.message m.passed) (JobFault job b)
+within : (job : Job) (b : List ℕ) → (length b ≤ MOST_BYTES → IsExact (TakesFor job b) (FaultFor job b)) → IsExact (Accepts job b) (FaultOf job b)
 within job b exact = record {
   one = λ x y p q. (exact p.0).one x y p.1 q.1;
   single = single;
   apart = apart;
 }
   where
-    single : (g h : Fault) → JobFault job b g → JobFault job b h → h ≡ g
+    single : (g h : Fault) → FaultOf job b g → FaultOf job b h → h ≡ g
     single g h (inl p) (inl q) = q.1 ∙ sym p.1
     single g h (inl p) (inr q) = absurd (omega (arith, p.0, q.0))
     single g h (inr p) (inl q) = absurd (omega (arith, p.0, q.0))
     single g h (inr p) (inr q) = (exact p.0).single g h p.1 q.1
 
-    apart : (m : Meaning) (g : Fault) → JobAccepts job b m.message m.passed → JobFault job b g → ⊥
+    apart : (m : Meaning) (g : Fault) → Accepts job b m → FaultOf job b g → ⊥
     apart m g p (inl q) = omega (arith, p.0, q.0)
     apart m g p (inr q) = (exact p.0).apart m g p.1 q.1
 
-pub to_msg_exact : (b : List ℕ) → IsExact (λ (m : Meaning). JobAccepts to_msg b m.message m.passed) (JobFault to_msg b)
+pub to_msg_exact : (b : List ℕ) → IsExact (Accepts to_msg b) (FaultOf to_msg b)
 to_msg_exact b = within to_msg b (by_front (is_compound b) (is_signed b) b refl)
 
-pub to_msg4_exact : (b : List ℕ) → IsExact (λ (m : Meaning). JobAccepts to_msg4 b m.message m.passed) (JobFault to_msg4 b)
+pub to_msg4_exact : (b : List ℕ) → IsExact (Accepts to_msg4 b) (FaultOf to_msg4 b)
 to_msg4_exact b = within to_msg4 b (by_front (is_compound b) (is_signed b) b refl)
 
-pub to_tnef_exact : (b : List ℕ) → IsExact (λ (m : Meaning). JobAccepts to_tnef b m.message m.passed) (JobFault to_tnef b)
+pub to_tnef_exact : (b : List ℕ) → IsExact (Accepts to_tnef b) (FaultOf to_tnef b)
 to_tnef_exact b = within to_tnef b (by_front (is_compound b) (is_signed b) b refl)
 
-pub wrap_exact : (b : List ℕ) → IsExact (λ (m : Meaning). JobAccepts wrap b m.message m.passed) (JobFault wrap b)
+pub wrap_exact : (b : List ℕ) → IsExact (Accepts wrap b) (FaultOf wrap b)
 wrap_exact b = within wrap b (λ few. tnef_exact b)

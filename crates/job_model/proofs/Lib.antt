@@ -1,3 +1,3 @@
 pub mod Acceptance
-pub mod Jobs
+pub mod Results
 pub mod WithinLimits

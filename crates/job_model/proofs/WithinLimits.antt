@@ -51,6 +51,13 @@ mutual
   few_in (embedded inner) h = few_parts inner h
   few_in (stored store) h = tt
 
+pub parts_within : (t : Message) → first_limit (msg_limits t) ≡ None → (length (names_of t) ≤ 32000) × HasFewParts t
+parts_within t h =
+    let parts = flat_map passed_by (messages_in t) in
+    let first = not_passed 32000 (length (names_of t)) (too_many_names (length (names_of t))) parts h in
+    let all = all_within (messages_in t) [] (ap first_limit (append-nil parts) ∙ first.1) in
+    (first.0, few_parts t all.0)
+
 pub within : (z : ℕ) (t : Message) → first_limit (msg_limits t ++ passed_size (msg_in z t)) ≡ None → (length (names_of t) ≤ 32000) × HasFewParts t × (length (msg_in z t) ≤ MOST_BYTES)
 within z t h =
     let size = passed_size (msg_in z t) in

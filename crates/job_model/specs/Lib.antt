@@ -1,9 +1,9 @@
 pub mod Acceptance
 pub mod Commands
-pub mod Jobs
 pub mod ReasonNames
 pub mod ReportTexts
 pub mod SampleTrees
+pub mod Signatures
 pub mod Targets
 pub mod TreeTexts
 pub mod ValueTexts

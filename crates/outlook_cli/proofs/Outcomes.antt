@@ -1,99 +1,63 @@
 -- The three answers that there are for a job.
-use Rattle.std.proofs.Common.{◌≡◌, ℕ, ◌<◌, ◌≤◌, List, [], length, Option, Some, None, refl, sym, ap, ◌∙◌}
+use Rattle.std.proofs.Common.{◌≡◌, ℕ, ◌<◌, List, length, Option, Some, None, Result, Ok, Err, refl, sym, ap, inl}
 use Rattle.std.specs.Prelude.{IfSome}
-use Rattle.carrier_model.specs.Bytes.{AllBytes, MOST_BYTES}
+use Rattle.carrier_io.specs.Reads.{FaultOnly}
+use Rattle.carrier_io.proofs.Sides.{reads_fault}
+use Rattle.carrier_model.specs.Bytes.{MOST_BYTES}
 use Rattle.carrier_model.specs.Limits as limits
-use Rattle.carrier_model.specs.Limits.{first_limit, tnef_limits, too_large}
-use Rattle.job_model.specs.Targets.{passed_size}
-use Rattle.tnef_model.specs.TnefCanonical.{tnef_of}
-use Rattle.job_model.specs.Jobs.{Accepts, FaultOf}
 use Rattle.carrier_model.specs.Meanings.{Meaning}
-use Rattle.carrier_model.specs.Tree.{GREATEST_LEVEL, Message}
-use Rattle.carrier_model.specs.Totals.{capped}
-use Rattle.job_model.proofs.WithinLimits.{tree_within}
-use Rattle.tnef_model.proofs.ReadTnef.{carrier_is_tree}
-use Rattle.tnef_model.proofs.TnefMessage.{message_exact}
-use Rattle.carrier_model.proofs.Messages.{first_found, first_later, is_passed, isnt_passed}
-use Rattle.msg_tree.specs.Limiting.{limit_of}
-use Rattle.msg_tree.specs.declared.target_limits.Limit.{Limit}
-use Rattle.msg_tree.specs.declared.target_limits.Limit.TheVariants.{Size}
+use Rattle.carrier_model.specs.Reasons.{INPUT_TOO_LONG}
+use Rattle.carrier_model.specs.Trail.{IsExact}
+use Rattle.job_model.specs.Acceptance.{Accepts, FaultOf}
+use Rattle.job_model.specs.Commands.{Job}
+use Rattle.job_model.specs.Targets.{passed_limit}
 use Rattle.outlook_cli.specs.declared.status.Status.{Status}
 use Rattle.outlook_cli.specs.declared.status.Status.TheVariants.{Done, Refused, Usage, Unfit, ReadFault, WriteFault, NoMemory}
-use Rattle.outlook_cli.specs.Outcome.{Puts, Tells, IsAccepted, CarriesOnly, IsDone, IsUnfit, IsRefused, stream_limit}
+use Rattle.outlook_cli.specs.Outcome.{Tells, IsDone, IsUnfit, IsRefused, IsAnswered, status_seen}
+use Rattle.translate_core.specs.Ends as core
+use Rattle.translate_core.specs.declared.ends.End.{End}
+use Rattle.translate_core.specs.declared.ends.End.TheVariants as ends
 
--- ---- the first limit
+-- what a translation tells is told by its status
+pub told : (job : Job) (bytes : List ℕ) (old new : Option (List ℕ)) (r : Result (Unit {0}) End) → core.Tells job bytes old new r → Tells job bytes old new (status_seen r)
+told job bytes old new (Ok u) t = t
+told job bytes old new (Err (ends.Refused g)) t = t
+told job bytes old new (Err (ends.Unfit limit)) t = t
+told job bytes old new (Err ends.WriteFault) t = t
+told job bytes old new (Err ends.NoMemory) t = t
 
-pub limit_by_names : (t : Message) (limit : Limit) → Some (limit_of limit) ≡ first_limit (tnef_limits t) → stream_limit t ≡ Some (limit_of limit)
-limit_by_names t limit e = first_found (tnef_limits t) (passed_size (tnef_of t)) (limit_of limit) (sym e)
+pub too_long : (job : Job) (bytes : List ℕ) → IsExact (Accepts job bytes) (FaultOf job bytes) → MOST_BYTES < length bytes → FaultOnly (Accepts job bytes) (FaultOf job bytes) (INPUT_TOO_LONG, MOST_BYTES)
+too_long job bytes exact long = reads_fault (Accepts job bytes) (FaultOf job bytes) (INPUT_TOO_LONG, MOST_BYTES) exact.single exact.apart (inl (long, refl))
 
-pub limit_by_size : (t : Message) (n : ℕ) → None ≡ first_limit (tnef_limits t) → MOST_BYTES < length (tnef_of t) → n ≡ capped (length (tnef_of t)) → stream_limit t ≡ Some (limit_of (Size n))
-limit_by_size t n none long e =
-    first_later (tnef_limits t) (passed_size (tnef_of t)) (sym none)
-    ∙ ap first_limit (is_passed MOST_BYTES (length (tnef_of t)) (too_large (capped (length (tnef_of t)))) long)
-    ∙ ap (λ (k : ℕ). Some (too_large k)) (sym e)
+-- ---- the answers that there are
 
-pub no_limit : (t : Message) → None ≡ first_limit (tnef_limits t) → length (tnef_of t) ≤ MOST_BYTES → stream_limit t ≡ None
-no_limit t none short =
-    first_later (tnef_limits t) (passed_size (tnef_of t)) (sym none)
-    ∙ ap first_limit (isnt_passed MOST_BYTES (length (tnef_of t)) (too_large (capped (length (tnef_of t)))) short)
+is_done : (job : Job) (bytes : List ℕ) (old new : Option (List ℕ)) (s : Status) → Tells job bytes old new s → (m : Meaning) → Accepts job bytes m → passed_limit job m.message bytes ≡ None → IsDone s
+is_done job bytes old new Done t m a n = tt
+is_done job bytes old new (Refused g) t m a n = t.meaningless m a
+is_done job bytes old new Usage t m a n = t
+is_done job bytes old new (Unfit limit) t m a n = let same = ap (λ (k : Meaning). passed_limit job k.message bytes) (t.accepted.only m a) in let some = t.passes in absurd cc
+is_done job bytes old new ReadFault t m a n = tt
+is_done job bytes old new WriteFault t m a n = tt
+is_done job bytes old new NoMemory t m a n = tt
 
--- ---- what is told
+is_unfit : (job : Job) (bytes : List ℕ) (old new : Option (List ℕ)) (s : Status) → Tells job bytes old new s → (m : Meaning) (limit : limits.Limit) → Accepts job bytes m → passed_limit job m.message bytes ≡ Some limit → IsUnfit limit s
+is_unfit job bytes old new Done t m limit a n = let same = ap (λ (k : Meaning). passed_limit job k.message bytes) (t.accepted.only m a) in let none = t.written.fits in cc
+is_unfit job bytes old new (Refused g) t m limit a n = t.meaningless m a
+is_unfit job bytes old new Usage t m limit a n = t
+is_unfit job bytes old new (Unfit other) t m limit a n = let same = ap (λ (k : Meaning). passed_limit job k.message bytes) (t.accepted.only m a) in let some = t.passes in cc
+is_unfit job bytes old new ReadFault t m limit a n = tt
+is_unfit job bytes old new WriteFault t m limit a n = let same = ap (λ (k : Meaning). passed_limit job k.message bytes) (t.accepted.only m a) in let none = t.front.fits in cc
+is_unfit job bytes old new NoMemory t m limit a n = tt
 
--- what is written for what the bytes mean carries that
-carried : (bytes : List ℕ) (m : Meaning) → AllBytes bytes → Accepts bytes m → stream_limit m.message ≡ None → CarriesOnly (tnef_of m.message) m.message
-carried bytes m all a none =
-    let tree = carrier_is_tree bytes m.message m.passed all a.0 a.1 in
-    let means = tree_within m.message [] tree none in
-    record {
-      carried = means;
-      only = λ other c. (let same : other ≡ record { message = m.message; passed = [] } = (message_exact GREATEST_LEVEL 0 (tnef_of m.message)).one (record { message = m.message; passed = [] }) other means c in (ap (λ (k : Meaning). k.message) same, ap (λ (k : Meaning). k.passed) same));
-    }
+is_refused : (job : Job) (bytes : List ℕ) (old new : Option (List ℕ)) (s : Status) → Tells job bytes old new s → (g : ℕ × ℕ) → FaultOf job bytes g → IsRefused g s
+is_refused job bytes old new Done t g f = t.accepted.faultless g f
+is_refused job bytes old new (Refused h) t g f = sym (t.only g f)
+is_refused job bytes old new Usage t g f = t
+is_refused job bytes old new (Unfit limit) t g f = t.accepted.faultless g f
+is_refused job bytes old new ReadFault t g f = tt
+is_refused job bytes old new WriteFault t g f = t.accepted.faultless g f
+is_refused job bytes old new NoMemory t g f = tt
 
--- what was written of the one message that the bytes mean
-pub tells : (s : Status) (bytes : List ℕ) (old new : Option (List ℕ)) (m : Meaning) → AllBytes bytes → IsAccepted bytes m → Puts s m.message old new → Tells s bytes old new
-tells Done bytes old new m all a p = (m, a, p, carried bytes m all a.found p.0)
-tells (Refused g) bytes old new m all a p = absurd p
-tells Usage bytes old new m all a p = tt
-tells (Unfit limit) bytes old new m all a p = (m, a, p)
-tells ReadFault bytes old new m all a p = tt
-tells WriteFault bytes old new m all a p = (m, a, p)
-tells NoMemory bytes old new m all a p = tt
-
-is_done : (s : Status) (bytes : List ℕ) (old new : Option (List ℕ)) → (s ≡ Usage → ⊥) → Tells s bytes old new → (m : Meaning) → Accepts bytes m → stream_limit m.message ≡ None → IsDone s
-is_done Done bytes old new u t m a n = tt
-is_done (Refused g) bytes old new u t m a n = t.meaningless m a
-is_done Usage bytes old new u t m a n = u refl
-is_done (Unfit limit) bytes old new u t m a n = let e = t.1.only m a in absurd (let same = ap (λ (k : Meaning). stream_limit k.message) e in let some = t.2 in cc)
-is_done ReadFault bytes old new u t m a n = tt
-is_done WriteFault bytes old new u t m a n = tt
-is_done NoMemory bytes old new u t m a n = tt
-
-is_unfit : (s : Status) (bytes : List ℕ) (old new : Option (List ℕ)) → (s ≡ Usage → ⊥) → Tells s bytes old new → (m : Meaning) (limit : limits.Limit) → Accepts bytes m → stream_limit m.message ≡ Some limit → IsUnfit limit s
-is_unfit Done bytes old new u t m limit a n = let same = ap (λ (k : Meaning). stream_limit k.message) (t.1.only m a) in let none = t.2.0 in cc
-is_unfit (Refused g) bytes old new u t m limit a n = t.meaningless m a
-is_unfit Usage bytes old new u t m limit a n = u refl
-is_unfit (Unfit other) bytes old new u t m limit a n = let same = ap (λ (k : Meaning). stream_limit k.message) (t.1.only m a) in let some = t.2 in cc
-is_unfit ReadFault bytes old new u t m limit a n = tt
-is_unfit WriteFault bytes old new u t m limit a n = let same = ap (λ (k : Meaning). stream_limit k.message) (t.1.only m a) in let none = t.2.0 in cc
-is_unfit NoMemory bytes old new u t m limit a n = tt
-
-is_refused : (s : Status) (bytes : List ℕ) (old new : Option (List ℕ)) → (s ≡ Usage → ⊥) → Tells s bytes old new → (g : ℕ × ℕ) → FaultOf bytes g → IsRefused g s
-is_refused Done bytes old new u t g f = t.1.faultless g f
-is_refused (Refused h) bytes old new u t g f = sym (t.only g f)
-is_refused Usage bytes old new u t g f = u refl
-is_refused (Unfit limit) bytes old new u t g f = t.1.faultless g f
-is_refused ReadFault bytes old new u t g f = tt
-is_refused WriteFault bytes old new u t g f = t.1.faultless g f
-is_refused NoMemory bytes old new u t g f = tt
-
-pub told_done : (told : Option (List ℕ)) (s : Status) (old new : Option (List ℕ)) → (s ≡ Usage → ⊥) → IfSome told (λ bytes. Tells s bytes old new) → IfSome told (λ bytes. (m : Meaning) → Accepts bytes m → stream_limit m.message ≡ None → IsDone s)
-told_done None s old new u t = tt
-told_done (Some bytes) s old new u t = is_done s bytes old new u t
-
-pub told_unfit : (told : Option (List ℕ)) (s : Status) (old new : Option (List ℕ)) → (s ≡ Usage → ⊥) → IfSome told (λ bytes. Tells s bytes old new) → IfSome told (λ bytes. (m : Meaning) (limit : limits.Limit) → Accepts bytes m → stream_limit m.message ≡ Some limit → IsUnfit limit s)
-told_unfit None s old new u t = tt
-told_unfit (Some bytes) s old new u t = is_unfit s bytes old new u t
-
-pub told_refused : (told : Option (List ℕ)) (s : Status) (old new : Option (List ℕ)) → (s ≡ Usage → ⊥) → IfSome told (λ bytes. Tells s bytes old new) → IfSome told (λ bytes. (g : ℕ × ℕ) → FaultOf bytes g → IsRefused g s)
-told_refused None s old new u t = tt
-told_refused (Some bytes) s old new u t = is_refused s bytes old new u t
+pub answered : (job : Job) (left old new : Option (List ℕ)) (s : Status) → IfSome left (λ bytes. Tells job bytes old new s) → IfSome left (λ bytes. IsAnswered job bytes s)
+answered job None old new s t = tt
+answered job (Some bytes) old new s t = record { done = is_done job bytes old new s t; unfit = is_unfit job bytes old new s t; refused = is_refused job bytes old new s t }

@@ -1,53 +1,36 @@
 -- What a status says.
-use Rattle.std.specs.Prelude.{◌≡◌, ℕ, List, [], Option, Some, None}
-use Rattle.std.specs.Io.KnownBytes.{Appends}
-use Rattle.carrier_io.specs.Known.{AppendsFront}
-use Rattle.carrier_io.specs.Reads.{MeansOnly, FaultOnly}
+use Rattle.std.specs.Prelude.{◌≡◌, ℕ, List, Option, Some, None, Result, Ok, Err}
+use Rattle.carrier_io.specs.Reads.{FaultOnly}
 use Rattle.carrier_io.specs.Reasons.{fault_of}
-use Rattle.job_model.specs.Commands.{to_tnef}
 use Rattle.carrier_model.specs.Limits as limits
-use Rattle.job_model.specs.Targets.{passed_limit}
-use Rattle.tnef_model.specs.TnefCanonical.{tnef_of}
-use Rattle.job_model.specs.Jobs.{Accepts, FaultOf}
 use Rattle.carrier_model.specs.Meanings.{Meaning}
-use Rattle.tnef_model.specs.TnefMessage.{TnefCarrier}
-use Rattle.carrier_model.specs.Tree.{Message}
+use Rattle.job_model.specs.Acceptance.{Accepts, FaultOf}
+use Rattle.job_model.specs.Commands.{Job}
+use Rattle.job_model.specs.Targets.{passed_limit}
 use Rattle.msg_tree.specs.Limiting.{limit_of}
 use Rattle.outlook_cli.specs.declared.status.Status.{Status}
 use Rattle.outlook_cli.specs.declared.status.Status.TheVariants.{Done, Refused, Usage, Unfit, ReadFault, WriteFault, NoMemory}
+use Rattle.translate_core.specs.Ends.{Translated, TooMuch, Broken}
+use Rattle.translate_core.specs.declared.ends.End.{End}
+use Rattle.translate_core.specs.declared.ends.End.TheVariants as ends
 
--- the first limit that a message passes as a TNEF stream, if any
-abbrev pub stream_limit : Message → Option limits.Limit
-stream_limit t = passed_limit to_tnef t []
+-- the status of a translation
+abbrev pub status_seen : Result (Unit {0}) End → Status
+status_seen (Ok u) = Done
+status_seen (Err (ends.Refused g)) = Refused g
+status_seen (Err (ends.Unfit limit)) = Unfit limit
+status_seen (Err ends.WriteFault) = WriteFault
+status_seen (Err ends.NoMemory) = NoMemory
 
--- of the message that is written, and of what the output held before and holds after
-abbrev pub Puts : Status → Message → Option (List ℕ) → Option (List ℕ) → Type 0
-Puts Done t old new = (stream_limit t ≡ None) × Appends old new (tnef_of t)
-Puts (Refused g) t old new = ⊥
-Puts Usage t old new = ⊥
-Puts (Unfit limit) t old new = stream_limit t ≡ Some (limit_of limit)
-Puts ReadFault t old new = ⊥
-Puts WriteFault t old new = (stream_limit t ≡ None) × AppendsFront old new (tnef_of t)
-Puts NoMemory t old new = Unit {0}
-
--- the bytes that were read are accepted as this, and as nothing else
-abbrev pub IsAccepted : List ℕ → Meaning → Type 0
-IsAccepted bytes = MeansOnly (Accepts bytes) (FaultOf bytes)
-
--- A stream carries this message with nothing passed over, and nothing else.
-pub record CarriesOnly (stream : List ℕ) (t : Message) : Type 0 where
-  pub carried : TnefCarrier stream t []
-  pub only : (other : Meaning) → TnefCarrier stream other.message other.passed → (other.message ≡ t) × (other.passed ≡ [])
-
--- of the bytes that were read, and of what the output held before and holds after
-abbrev pub Tells : Status → List ℕ → Option (List ℕ) → Option (List ℕ) → Type 0
-Tells Done bytes old new = (m : Meaning) × IsAccepted bytes m × Puts Done m.message old new × CarriesOnly (tnef_of m.message) m.message
-Tells (Refused g) bytes old new = FaultOnly (Accepts bytes) (FaultOf bytes) (fault_of g)
-Tells Usage bytes old new = Unit {0}
-Tells (Unfit limit) bytes old new = (m : Meaning) × IsAccepted bytes m × Puts (Unfit limit) m.message old new
-Tells ReadFault bytes old new = Unit {0}
-Tells WriteFault bytes old new = (m : Meaning) × IsAccepted bytes m × Puts WriteFault m.message old new
-Tells NoMemory bytes old new = Unit {0}
+-- Of a job and the bytes that the input held, and of what the output held before and holds after.
+abbrev pub Tells : Job → List ℕ → Option (List ℕ) → Option (List ℕ) → Status → Type 0
+Tells job bytes old new Done = Translated job bytes old new
+Tells job bytes old new (Refused g) = FaultOnly (Accepts job bytes) (FaultOf job bytes) (fault_of g)
+Tells job bytes old new Usage = ⊥
+Tells job bytes old new (Unfit limit) = TooMuch job bytes (limit_of limit)
+Tells job bytes old new ReadFault = Unit {0}
+Tells job bytes old new WriteFault = Broken job bytes old new
+Tells job bytes old new NoMemory = Unit {0}
 
 -- after every other status the output is as it was
 abbrev pub WritesNothing : {O : Type 0} → Status → O → O → Type 0
@@ -58,6 +41,8 @@ WritesNothing Usage old new = new ≡ old
 WritesNothing (Unfit limit) old new = new ≡ old
 WritesNothing ReadFault old new = new ≡ old
 WritesNothing NoMemory old new = new ≡ old
+
+-- ---- the answers that there are
 
 -- the answer where the bytes are accepted and no limit is passed, and no other
 abbrev pub IsDone : Status → Type 0
@@ -88,3 +73,9 @@ IsRefused g (Unfit limit) = ⊥
 IsRefused g ReadFault = Unit {0}
 IsRefused g WriteFault = ⊥
 IsRefused g NoMemory = Unit {0}
+
+-- Every input has one of three answers; only a fault of a device, or want of memory, excuses another.
+pub record IsAnswered (job : Job) (bytes : List ℕ) (s : Status) : Type 0 where
+  pub done : (m : Meaning) → Accepts job bytes m → passed_limit job m.message bytes ≡ None → IsDone s
+  pub unfit : (m : Meaning) (limit : limits.Limit) → Accepts job bytes m → passed_limit job m.message bytes ≡ Some limit → IsUnfit limit s
+  pub refused : (g : ℕ × ℕ) → FaultOf job bytes g → IsRefused g s

@@ -4,7 +4,6 @@
 mod report;
 mod run;
 mod status;
-mod translate;
 mod words;
 
 use carrier_io::{StdSink, StdSource};
@@ -30,6 +29,10 @@ fn main(rt: HostRuntime) -> ExitCode {
     ExitCode::from(status.code())
 }
 
+#[cfg(test)]
+mod file_tests;
+#[cfg(test)]
+mod mail_tests;
 #[cfg(test)]
 mod stream_tests;
 #[cfg(test)]

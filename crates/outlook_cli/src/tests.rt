@@ -4,7 +4,7 @@ use carrier_io::{Fault, MemorySink, MemorySource, Reason};
 use std::test::*;
 
 /// A stream with the code page 1252 and one property, id 0017 and value 2.
-const ONE_PROPERTY: [u8; 63] = [
+pub(crate) const ONE_PROPERTY: [u8; 63] = [
     0x78, 0x9f, 0x3e, 0x22, 0x01, 0x00, 0x01, 0x06, 0x90, 0x08, 0x00, 0x04, 0x00, 0x00, 0x00, 0x00,
     0x00, 0x01, 0x00, 0x01, 0x00, 0x01, 0x07, 0x90, 0x06, 0x00, 0x08, 0x00, 0x00, 0x00, 0xe4, 0x04,
     0x00, 0x00, 0x00, 0x00, 0x00, 0x00, 0xe8, 0x00, 0x01, 0x03, 0x90, 0x06, 0x00, 0x0c, 0x00, 0x00,
@@ -64,7 +64,6 @@ fn streams_are_translated_or_refused(rt: HostRuntime) -> Result<(), Fail> {
     without.extend_from_slice(&NO_PROPERTIES)?;
     let mut other_sum = ONE_PROPERTY;
     other_sum[61] = 0x1e;
-    let compound = [0xd0, 0xcf, 0x11, 0xe0, 0xa1, 0xb1, 0x1a, 0xe1];
     let table = [
         (&ONE_PROPERTY[..], Status::Done, &ONE_PROPERTY[..], &b""[..]),
         (&empty[..], Status::Done, &without[..], &b""[..]),
@@ -85,12 +84,6 @@ fn streams_are_translated_or_refused(rt: HostRuntime) -> Result<(), Fail> {
             refused(Reason::Truncated, 61),
             &[][..],
             &b"refused 62 Truncated at 61\n"[..],
-        ),
-        (
-            &compound[..],
-            refused(Reason::NotBuilt, 0),
-            &[][..],
-            &b"refused 2 NotBuilt at 0\n"[..],
         ),
     ];
     for (input, status, output, report) in table {

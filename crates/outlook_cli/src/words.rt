@@ -1,16 +1,12 @@
-ghost use Rattle.std.specs.Prelude.{◌≡◌, ◌↔◌, IsSome, IfOk, drop};
+ghost use Rattle.std.specs.Prelude.{◌≡◌, IfOk, drop};
+ghost use Rattle.std.specs.Option.{option_map};
 ghost use Rattle.std.specs.Vec.Iter.{into_iter_items};
-ghost use Rattle.job_model.specs.Jobs.{IsJob};
-ghost use Rattle.outlook_cli.specs.Words.{texts};
+ghost use Rattle.job_model.specs.Commands.{command_among, words_of_one};
+ghost use Rattle.outlook_cli.specs.Words.{asked, job_in, texts, translation};
 
 use std::alloc::{AllocError, Global};
 use std::env;
-
-/// A translation.
-#[derive(Clone, Copy, Debug, PartialEq, Eq)]
-pub enum Job {
-    ToTnef,
-}
+use translate_core::Job;
 
 /// A command.
 #[derive(Clone, Copy, Debug, PartialEq, Eq)]
@@ -18,14 +14,40 @@ pub enum Command {
     Translate(Job),
 }
 
-/// The command that the words say.
-pub fn job_of(words: &[String]) -> Option<Command>
-    ensures { IsSome result ↔ IsJob (texts words.now) }
+/// The command of one word.
+fn command_named(word: &str) -> Option<Command>
+    ensures { option_map job_in result ≡ translation (command_among words_of_one word.now) }
 {
-    if words.len() == 1 && words[0].as_str() == "to-tnef" {
+    if "show" == word || "check" == word {
+        return None;
+    }
+    if "to-msg" == word {
+        return Some(Command::Translate(Job::ToMsg));
+    }
+    if "to-msg4" == word {
+        return Some(Command::Translate(Job::ToMsg4));
+    }
+    if "to-tnef" == word {
         return Some(Command::Translate(Job::ToTnef));
     }
+    if "wrap" == word {
+        return Some(Command::Translate(Job::Wrap));
+    }
+    if "unwrap" == word {
+        return Some(Command::Translate(Job::Unwrap));
+    }
     None
+}
+
+/// The command that the words say.
+pub fn job_of(words: &[String]) -> Option<Command>
+    ensures { option_map job_in result ≡ asked (texts words.now) }
+{
+    if words.len() == 1 {
+        command_named(words[0].as_str())
+    } else {
+        None
+    }
 }
 
 /// The words behind the program's name, which is the first argument.

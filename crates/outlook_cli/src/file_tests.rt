@@ -1,0 +1,128 @@
+use crate::status::Status;
+use crate::tests::{ONE_PROPERTY, refused, run_over};
+use carrier_io::{Reason, le16, le32, u32_at};
+use msg_tree::Limit;
+use std::test::*;
+
+/// A TNEF stream without attributes.
+const EMPTY: [u8; 6] = [0x78, 0x9f, 0x3e, 0x22, 0x00, 0x00];
+
+/// The file of a stream.
+fn file_of(rt: &HostRuntime, word: &str, stream: &[u8]) -> Result<Vec<u8>, Fail> {
+    let got = run_over(rt, &[word], stream, &[], &[])?;
+    let done = got.status == Status::Done;
+    Ok(done.then_some(got.output).ok_or("a result")?)
+}
+
+/// A stream with a property 1013 of so many zeros.
+fn with_binary(rt: &HostRuntime, size: u16) -> Result<Vec<u8>, Fail> {
+    let mut list = Vec::from_slice(rt.alloc(), &[1, 0, 0, 0, 0x02, 0x01, 0x13, 0x10, 1, 0, 0, 0])?;
+    list.extend_from_slice(&le32(u32::from(size)))?;
+    for _ in 0..4096 {
+        list.push(0)?;
+    }
+    let mut sum = 0u16;
+    for byte in &list {
+        sum = sum.wrapping_add(u16::from(*byte));
+    }
+    let mut stream = ONE_PROPERTY[..40].to_vec(rt.alloc())?;
+    stream.extend_from_slice(&[1, 0x03, 0x90, 0x06, 0])?;
+    stream.extend_from_slice(&le32(4112))?;
+    stream.extend_from_slice(&list)?;
+    stream.extend_from_slice(&le16(sum))?;
+    Ok(stream)
+}
+
+#[test]
+fn the_file_of_an_empty_message(rt: HostRuntime) -> Result<(), Fail> {
+    let file = file_of(&rt, "to-msg", &EMPTY)?;
+    assert_eq!(rt; file.len(), 3072);
+    let table = [
+        (512, 0xFFFF_FFFD),
+        (516, 2),
+        (520, 0xFFFF_FFFE),
+        (524, 0xFFFF_FFFE),
+        (528, 0xFFFF_FFFE),
+        (532, 0xFFFF_FFFF),
+        (1024 + 76, 1),
+        (1024 + 116, 4),
+        (1024 + 120, 64),
+        (1152 + 72, 5),
+        (1152 + 76, 3),
+        (1024 + 3 * 128 + 68, 2),
+        (1024 + 3 * 128 + 72, 4),
+        (1024 + 5 * 128 + 116, 0),
+        (1024 + 5 * 128 + 120, 32),
+    ];
+    for (at, word) in table {
+        assert_eq!(rt; u32_at(&file, at), word);
+    }
+    Ok(())
+}
+
+#[test]
+fn files_are_read_back(rt: HostRuntime) -> Result<(), Fail> {
+    let entry = [3, 0, 0x17, 0, 6, 0, 0, 0, 2, 0, 0, 0, 0, 0, 0, 0];
+    let file = file_of(&rt, "to-msg", &ONE_PROPERTY)?;
+    assert_eq!(rt; file.len(), 3072);
+    assert_eq!(rt; &file[2592..2608], &entry[..]);
+    for word in ["to-msg", "to-msg4"] {
+        let file = file_of(&rt, word, &ONE_PROPERTY)?;
+        let stream = file_of(&rt, "to-tnef", &file)?;
+        assert_eq!(rt; stream.as_slice(), &ONE_PROPERTY[..]);
+    }
+    Ok(())
+}
+
+#[test]
+fn values_below_and_from_4096_bytes(rt: HostRuntime) -> Result<(), Fail> {
+    for size in [4095, 4096] {
+        let stream = with_binary(&rt, size)?;
+        let file = file_of(&rt, "to-msg", &stream)?;
+        assert_eq!(rt; file.len(), 7168);
+    }
+    Ok(())
+}
+
+#[test]
+fn files_with_faults(rt: HostRuntime) -> Result<(), Fail> {
+    let file = file_of(&rt, "to-msg", &EMPTY)?;
+    let table = [
+        (520, 1, Reason::Cycle, 520),
+        (528, 2, Reason::Shared, 528),
+        (1144, 1024, Reason::ShortChain, 528),
+    ];
+    for (at, word, reason, offset) in table {
+        let mut changed = file.to_vec(rt.alloc())?;
+        for (i, byte) in le32(word).iter().enumerate() {
+            changed[at + i] = *byte;
+        }
+        let got = run_over(&rt, &["to-tnef"], &changed, &[], &[])?;
+        assert_eq!(rt; got.status, refused(reason, offset));
+        assert_eq!(rt; got.output.len(), 0);
+    }
+    let got = run_over(&rt, &["wrap"], &file, &[], &[])?;
+    assert_eq!(rt; got.status, refused(Reason::BadSignature, 0));
+    Ok(())
+}
+
+#[test]
+fn streams_that_make_no_file(rt: HostRuntime) -> Result<(), Fail> {
+    let mut other_sum = ONE_PROPERTY;
+    other_sum[61] = 0x1e;
+    let got = run_over(&rt, &["to-msg"], &other_sum, &[], &[])?;
+    assert_eq!(rt; got.status, refused(Reason::BadSum, 61));
+    assert_eq!(rt; got.output.len(), 0);
+    let mut many = ONE_PROPERTY[..40].to_vec(rt.alloc())?;
+    many.extend_from_slice(&[1, 0x04, 0x90, 0x06, 0])?;
+    many.extend_from_slice(&le32(4 + 4 * 2049))?;
+    many.extend_from_slice(&le32(2049))?;
+    for _ in 0..2049 {
+        many.extend_from_slice(&[0; 4])?;
+    }
+    many.extend_from_slice(&[9, 0])?;
+    let got = run_over(&rt, &["to-msg"], &many, &[], &[])?;
+    assert_eq!(rt; got.status, Status::Unfit(Limit::Recipients(2049)));
+    assert_eq!(rt; got.output.len(), 0);
+    Ok(())
+}

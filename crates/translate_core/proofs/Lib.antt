@@ -1,0 +1,5 @@
+mod Carrying
+mod Exact
+mod Forms
+mod Limiting
+mod Telling

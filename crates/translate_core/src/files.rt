@@ -1,0 +1,81 @@
+//! Messages written as .msg files.
+ghost use Rattle.std.specs.Prelude.{◌≡◌, ℕ, List, IfOk, IfErr};
+ghost use Rattle.cfb_writer.specs.Versions.{sector_of};
+ghost use Rattle.job_model.specs.Commands.{to_msg};
+ghost use Rattle.msg_model.specs.WrittenMsg.{msg_in, msg_of};
+ghost use Rattle.msg_tree.specs.Whole.{plain_of};
+ghost use Rattle.translate_core.specs.Ends.{Caused, FileEnds, Puts, WritesNothing, file_limit};
+ghost use Rattle.translate_core.specs.Jobs.{file_job};
+ghost use Rattle.carrier_model.specs.Bytes.{MOST_BYTES};
+
+use crate::ends::{End, MsgEnd, without_file};
+use carrier_io::{Blob, MemorySink, PlanEnd, Sink, write_gathered};
+use cfb_list::grown_lists_are_trees;
+use cfb_writer::{Plan, Version, sorted_lists_are_laid_out};
+use msg_storage::files_of;
+use msg_tree::{Limit, Tree, fits_msg, names};
+use std::alloc::Global;
+
+/// The .msg file of a tree, planned, unless the tree passes a limit. [MS-OXMSG 2.1]
+fn msg_plan<'t, B: Blob>(
+    alloc: Global,
+    version: Version,
+    tree: &'t Tree<B>,
+) -> Result<Plan<'t, B>, MsgEnd>
+    ensures ok { IfOk result (λ p. p ≡ msg_in (sector_of version) (plain_of tree.entry.now)) }
+    ensures fits { IfOk result (λ p. file_limit (sector_of version) (plain_of tree.entry.now) ≡ None) }
+    ensures end { IfErr result (FileEnds (sector_of version) (plain_of tree.entry.now)) }
+{
+    grown_lists_are_trees();
+    sorted_lists_are_laid_out();
+    let Ok(names) = names(alloc, tree) else {
+        return Err(MsgEnd::NoMemory);
+    };
+    if let Some(limit) = fits_msg(tree, &names) {
+        return Err(MsgEnd::Unfit(limit));
+    }
+    let Ok(files) = files_of(alloc, tree, &names) else {
+        return Err(MsgEnd::NoMemory);
+    };
+    match Plan::new(alloc, version, files) {
+        Ok(plan) => Ok(plan),
+        Err(PlanEnd::TooLarge(size)) => Err(MsgEnd::Unfit(Limit::Size(size))),
+        Err(PlanEnd::NoMemory) => Err(MsgEnd::NoMemory),
+    }
+}
+
+/// Writes the canonical .msg file of a tree, in either version, unless the tree passes a limit. [MS-OXMSG 2.1]
+pub(crate) fn write_msg<B: Blob, W: Sink>(
+    alloc: Global,
+    version: Version,
+    tree: &Tree<B>,
+    sink: &mut W,
+) -> Result<(), End>
+    ensures puts { (bytes : List ℕ) → Puts (file_job version) (plain_of tree.now) bytes (W.held sink.old) (W.held sink.new) result }
+    ensures nothing { WritesNothing result sink.old sink.new }
+    ensures cause { Caused (W.faults sink.old) (W.faults sink.new) result }
+{
+    match msg_plan(alloc, version, tree) {
+        Err(end) => Err(without_file(end)),
+        Ok(plan) => match write_gathered(&plan, sink) {
+            Ok(()) => Ok(()),
+            Err(_) => Err(End::WriteFault),
+        },
+    }
+}
+
+/// The canonical .msg file of a tree, of version 3. Unfit says which limit the tree passes, the first in the order of names,
+/// recipients and attachments message by message, and bytes. [MS-OXMSG 2.1]
+pub fn msg_bytes<B: Blob>(alloc: Global, tree: &Tree<B>) -> Result<Vec<u8>, MsgEnd>
+    ensures ok { IfOk result (λ v. v.items ≡ msg_of (plain_of tree.now)) }
+    ensures end { IfErr result (FileEnds 512 (plain_of tree.now)) }
+{
+    let plan = msg_plan(alloc, Version::Three, tree)?;
+    let Ok(mut sink) = MemorySink::new(alloc, plan.size() as usize + 1, Vec::new(alloc)) else {
+        return Err(MsgEnd::NoMemory);
+    };
+    match write_gathered(&plan, &mut sink) {
+        Ok(()) => Ok(sink.into_bytes()),
+        Err(_) => Err(MsgEnd::NoMemory),
+    }
+}
