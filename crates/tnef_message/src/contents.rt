@@ -40,7 +40,7 @@ fn recipients_in<'a>(
     let mut from = 4;
     for _k in 0..count {
         let list = read_list(alloc, bytes, from, at, Part::Recipient, passed)?;
-        recipients.push(list.props.into_held()?)?;
+        recipients.push(list.props)?;
         from = list.end;
     }
     Ok(recipients)
@@ -61,7 +61,7 @@ pub fn plain_gift<'a>(
     let at = attribute.offset + 9;
     if attribute.id == MESSAGE_LIST {
         let list = read_list(alloc, attribute.bytes, 0, at, Part::Top, passed)?;
-        return Ok(Gift::MessageList(list.props.into_held()?));
+        return Ok(Gift::MessageList(list.props));
     }
     if attribute.id == RECIPIENT_TABLE {
         return Ok(Gift::RecipientTable(recipients_in(alloc, attribute.bytes, at, passed)?));

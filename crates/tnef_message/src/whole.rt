@@ -90,7 +90,6 @@ fn attachment_gift<'a>(
         object,
         end: _,
     } = list;
-    let props = props.into_held()?;
     match object {
         Some(object) => {
             let body = body_in(alloc, object, levels, passed)?;

@@ -306,22 +306,22 @@ some_seen f (Some a) = refl
 -- ---- one item more in a draft
 
 -- the same of a draft, whose properties are marked with offsets
-pub record Filled (att : Bool) (from : Rest) (count k : ℕ) (d : Draft) (old now : List (Bool × ℕ × ℕ)) (rest : Rest) : Type 0 where
+pub record Filled {C : Type 0} (att : Bool) (from : Rest) (count k : ℕ) (d : Draft C) (old now : List (Bool × ℕ × ℕ)) (rest : Rest) : Type 0 where
   pub offsets : List ℕ
   pub marks : AreMarksOf d.arrivals offsets
   pub scanned : Scanned att from count k d.arrivals.props offsets (option_map object_of d.object) old now rest
 
-pub filled_none : (att : Bool) (from rest : Rest) (count : ℕ) (d : Draft) (old : List (Bool × ℕ × ℕ)) → IsEmpty d → Takes word from count rest → Filled att from count 0 d old old rest
+pub filled_none : {C : Type 0} (att : Bool) (from rest : Rest) (count : ℕ) (d : Draft C) (old : List (Bool × ℕ × ℕ)) → IsEmpty d → Takes word from count rest → Filled att from count 0 d old old rest
 filled_none att from rest count d old e p = record { offsets = []; marks = e.1; scanned = scanned_none att from rest count d.arrivals.props (option_map object_of d.object) old e.0 (ap (option_map object_of) e.2) p }
 
-pub none_fail : (att : Bool) (from : Rest) (d : Draft) → IsEmpty d → DoublesFail att from d.arrivals
+pub none_fail : {C : Type 0} (att : Bool) (from : Rest) (d : Draft C) → IsEmpty d → DoublesFail att from d.arrivals
 none_fail att from d e = record { offsets = []; marks = e.1; fail = λ k f. absurd (omega (arith, f.in_range, ap length e.0)) }
 
 -- the same properties
 pub fail_kept : (att : Bool) (from : Rest) (old new : Came) → new ≡ old → DoublesFail att from old → DoublesFail att from new
 fail_kept att from old new e f = subst (DoublesFail att from) (sym e) f
 
-module _ (att : Bool) (from : Rest) (count k : ℕ) (d d' : Draft) (old now now' : List (Bool × ℕ × ℕ)) (rest after : Rest) (f : Filled att from count k d old now rest) where
+module _ {C : Type 0} (att : Bool) (from : Rest) (count k : ℕ) (d d' : Draft C) (old now now' : List (Bool × ℕ × ℕ)) (rest after : Rest) (f : Filled att from count k d old now rest) where
   pub filled_fail : DoublesFail att from d.arrivals
   filled_fail = record { offsets = f.offsets; marks = f.marks; fail = f.scanned.doubles }
 

@@ -30,12 +30,12 @@ pub record PassedAtFront (in_attachment : Bool) (at : ℕ) (bytes : List ℕ) (o
   pub passed : new ≡ old ++ filter_map passed_in items
 
 -- the plain list, with what was passed over
-abbrev pub list_seen : ReadList → List (Bool × ℕ × ℕ) → PropList
+abbrev pub list_seen : {C : Type 0} → ReadList C → List (Bool × ℕ × ℕ) → PropList
 list_seen x more = record { props = x.props; object = option_map object_of x.object; passed = more }
 
 -- The bytes from a place up to the list's end are the list, they mean no other and have no fault, and what was
 -- passed over was added.
-pub record IsListOf (in_attachment : Bool) (bytes : List ℕ) (from at : ℕ) (old new : List (Bool × ℕ × ℕ)) (x : ReadList) : Type 0 where
+pub record IsListOf {C : Type 0} (in_attachment : Bool) (bytes : List ℕ) (from at : ℕ) (old new : List (Bool × ℕ × ℕ)) (x : ReadList C) : Type 0 where
   pub more : List (Bool × ℕ × ℕ)
   pub spans : Spans (prop_list in_attachment) (at + from) (drop from bytes) (list_seen x more) (at + x.end) (drop x.end bytes)
   pub alone : MeansOnly (Means (prop_list in_attachment) (at + from) (drop from bytes)) ((prop_list in_attachment).fails (at + from) (drop from bytes)) (list_seen x more)

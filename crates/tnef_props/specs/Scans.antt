@@ -10,17 +10,17 @@ use Rattle.tnef_props.specs.declared.list.Draft.{Draft}
 use Rattle.tnef_props.specs.declared.rest.Rest.{Rest}
 use Rattle.tnef_props.specs.Meaning.{object_of}
 
-abbrev pub IsEmpty : Draft → Type 0
+abbrev pub IsEmpty : {C : Type 0} → Draft C → Type 0
 IsEmpty d = (d.arrivals.props ≡ []) × AreMarksOf d.arrivals [] × (d.object ≡ None)
 
 -- one item more; a property is marked with the offset of its tag, and an Object is the first
-abbrev pub IsWith : Item → ℕ → Draft → Draft → Type 0
+abbrev pub IsWith : {C : Type 0} → Item → ℕ → Draft C → Draft C → Type 0
 IsWith (kept p) offset old new = (new.arrivals.props ≡ old.arrivals.props ++ p ∷ []) × ((offsets : List ℕ) → AreMarksOf old.arrivals offsets → AreMarksOf new.arrivals (offsets ++ offset ∷ [])) × (new.object ≡ old.object)
 IsWith (passed t place) offset old new = (new.arrivals ≡ old.arrivals) × (new.object ≡ old.object)
 IsWith (carried place content) offset old new = (new.arrivals ≡ old.arrivals) × (old.object ≡ None) × (option_map object_of new.object ≡ Some (place, content))
 
 -- an Object, and there is one already
-abbrev pub IsSecondObject : Item → Draft → Type 0
+abbrev pub IsSecondObject : {C : Type 0} → Item → Draft C → Type 0
 IsSecondObject (kept p) d = ⊥
 IsSecondObject (passed t place) d = ⊥
 IsSecondObject (carried place content) d = is_some d.object ≡ true
@@ -42,5 +42,5 @@ pub record DoublesFail (in_attachment : Bool) (from : Rest) (arrivals : Came) : 
   pub fail : FirstDoubleFails in_attachment from arrivals.props offsets
 
 -- the plain list, with what was passed over
-abbrev pub draft_seen : Draft → List (Bool × ℕ × ℕ) → PropList
+abbrev pub draft_seen : {C : Type 0} → Draft C → List (Bool × ℕ × ℕ) → PropList
 draft_seen d more = record { props = with_elements prop_cmp [] d.arrivals.props; object = option_map object_of d.object; passed = more }

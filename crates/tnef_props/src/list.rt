@@ -16,7 +16,7 @@ use crate::fields::word;
 use crate::items::{Item, any_item};
 use crate::object::{Object, ReadList};
 use crate::rest::Rest;
-use carrier_io::{Fault, Passed, PassedList, Reason, Stop};
+use carrier_io::{Blob, Fault, Holds, Passed, PassedList, Reason, Stop};
 use prop_values::{Arrivals, Part, Props, SettleEnd};
 use std::alloc::Global;
 
@@ -26,8 +26,8 @@ const LEAST_PROPERTY: usize = 8;
 /// What was read of a list, before it was looked at for doubles: the properties as they came, each marked by the offset
 /// of its tag, and the Object of an attachment.
 #[derive(Drop)]
-struct Draft<'a> {
-    arrivals: Arrivals<&'a [u8]>,
+struct Draft<'a, C: Blob> {
+    arrivals: Arrivals<C>,
     object: Option<Object<'a>>,
 }
 
@@ -41,8 +41,8 @@ fn double_at(offset: u64) -> Fault
     }
 }
 
-impl<'a> Draft<'a> {
-    fn new(alloc: Global) -> Draft<'a>
+impl<'a, C: Holds<&'a [u8]>> Draft<'a, C> {
+    fn new(alloc: Global) -> Draft<'a, C>
         ensures { IsEmpty result }
     {
         Draft {
@@ -51,7 +51,7 @@ impl<'a> Draft<'a> {
         }
     }
 
-    /// Adds the item whose tag is at the offset. A second Object is a fault there.
+    /// Adds the item whose tag is at the offset; its bytes become blobs here. A second Object is a fault there.
     fn add(&mut self, item: Item<'a>, offset: u64, passed: &mut PassedList) -> Result<(), Stop>
         ensures ok { OnOk result (IsWith (item_of item.entry) offset self.old self.new) }
         ensures passed { OnOk result (passed.new ≡ passed.old ++ filter_map lists.passed_in (item_of item.entry ∷ [])) }
@@ -61,7 +61,7 @@ impl<'a> Draft<'a> {
     {
         match item {
             Item::Kept(prop) => {
-                self.arrivals.push(prop, offset)?;
+                self.arrivals.push(prop.into_held()?, offset)?;
             }
             Item::Passed { tag, offset } => {
                 passed.push(Passed {
@@ -83,11 +83,11 @@ impl<'a> Draft<'a> {
 
 /// Reads the items of a list into an empty draft. Properties that are there twice are left for later. What is passed
 /// over is added to `passed`, after a refusal a part of it.
-fn scan<'a>(
+fn scan<'a, C: Holds<&'a [u8]>>(
     alloc: Global,
     from: Rest<'a>,
     in_attachment: bool,
-    draft: &mut Draft<'a>,
+    draft: &mut Draft<'a, C>,
     passed: &mut PassedList,
 ) -> Result<Rest<'a>, Stop>
     requires { IsEmpty draft.old }
@@ -108,15 +108,15 @@ fn scan<'a>(
 }
 
 /// What a list has, as far as it was read.
-type Gathered<'a> = (Props<&'a [u8]>, Option<Object<'a>>, Rest<'a>);
+type Gathered<'a, C> = (Props<C>, Option<Object<'a>>, Rest<'a>);
 
 /// A list. The first property that is there twice comes before whatever stopped the scan behind it.
-fn gather<'a>(
+fn gather<'a, C: Holds<&'a [u8]>>(
     alloc: Global,
     from: Rest<'a>,
     in_attachment: bool,
     passed: &mut PassedList,
-) -> Result<Gathered<'a>, Stop>
+) -> Result<Gathered<'a, C>, Stop>
     ensures found { IfOk result (λ x. (more : List (Bool × ℕ × ℕ)) × Takes (lists.prop_list in_attachment) from.entry (record { props = x.0; object = option_map object_of x.1; passed = more }) x.2 × (passed.new ≡ passed.old ++ more)) }
     ensures fault { IfErr result (Refuses (lists.prop_list in_attachment) from.entry) }
     ensures kept { OnErr result (PassedAtFront in_attachment from.entry.place from.entry.bytes.now passed.old passed.new) }
@@ -142,15 +142,16 @@ fn is_of_attachment(part: Part) -> bool
 
 /// Reads the list at the place `from` of the bytes, whose first byte is at the offset `at` of the input. A fault is
 /// the first of the list, by its offset in the input. What is passed over is added to `passed`; after a refusal that
-/// is what the items read so far pass over, and nothing that was there is lost. [MS-OXTNEF 2.1.3.4]
-pub fn read_list<'a>(
+/// is what the items read so far pass over, and nothing that was there is lost. The values are held in any blob that
+/// slices of the input become. [MS-OXTNEF 2.1.3.4]
+pub fn read_list<'a, C: Holds<&'a [u8]>>(
     alloc: Global,
     bytes: &'a [u8],
     from: usize,
     at: u64,
     part: Part,
     passed: &mut PassedList,
-) -> Result<ReadList<'a>, Stop>
+) -> Result<ReadList<'a, C>, Stop>
     requires from { from ≤ length bytes.now }
     requires room { at + length bytes.now ≤ 0x1000_0000 }
     ensures found { IfOk result (IsListOf (is_attachment part) bytes.entry.now from at passed.old passed.new) }

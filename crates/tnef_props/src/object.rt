@@ -1,6 +1,7 @@
 //! Lists that were read, and the Object of an attachment.
 ghost use Rattle.std.specs.Prelude.{◌+◌, ◌≤◌, length};
 
+use carrier_io::Blob;
 use prop_values::Props;
 
 /// The bytes of an Object, and the place of the first in the whole input.
@@ -13,8 +14,8 @@ pub struct Object<'a> {
 
 /// A list that was read: its properties, the Object of an attachment, and the place behind the list.
 #[derive(Drop)]
-pub struct ReadList<'a> {
-    pub props: Props<&'a [u8]>,
+pub struct ReadList<'a, C: Blob> {
+    pub props: Props<C>,
     pub object: Option<Object<'a>>,
     pub end: usize,
 }

@@ -1,5 +1,5 @@
-use crate::{append_range, list_size, object_place, range_sum, read_list, write_range};
-use carrier_io::{Fault, MemorySink, PassedList, Reason, Stop};
+use crate::{ReadList, append_range, list_size, object_place, range_sum, read_list, write_range};
+use carrier_io::{Blob, Fault, Holds, MemorySink, PassedList, Reason, Stop};
 use prop_names::{Key, Name, NameSet};
 use prop_values::{Kind, Part, Prop, Props, Value};
 use std::test::*;
@@ -16,23 +16,59 @@ const NAMED: [u8; 36] = [
     0, 0x0d, 0x82, 0, 0, 7, 0, 0, 0,
 ];
 
+/// A slice that is held.
+#[derive(Drop)]
+struct Kept<'a> {
+    bytes: &'a [u8],
+}
+
+impl<'a> Blob for Kept<'a> {
+    ghost use Rattle.std.specs.Prelude.{ℕ, List, refl};
+
+    ghost bytes = { λ k. k.bytes.now };
+
+    ghost count = { λ _. 1 };
+
+    ghost part = { λ k _. k.bytes.now };
+
+    ghost joins = { λ _. refl };
+
+    fn len(&self) -> usize {
+        self.bytes.len()
+    }
+
+    fn pieces(&self) -> usize {
+        1
+    }
+
+    fn piece(&self, _k: usize) -> &[u8] {
+        self.bytes
+    }
+}
+
+impl<'a> Holds<&'a [u8]> for Kept<'a> {
+    fn holding(bytes: &'a [u8]) -> Kept<'a> {
+        Kept { bytes }
+    }
+}
+
 #[test]
 fn lists_are_read(rt: HostRuntime) -> Result<(), Fail> {
     let alloc = rt.alloc();
     let mut passed = PassedList::new(alloc);
-    let texts = read_list(alloc, &TWO_TEXTS, 0, 0, Part::Top, &mut passed)
+    let texts: ReadList<'_, Kept<'_>> = read_list(alloc, &TWO_TEXTS, 0, 0, Part::Top, &mut passed)
         .ok()
         .ok_or("a list")?;
     assert_eq!(rt; (texts.props.len(), texts.end), (1, 28));
     match &texts.props.get(0).value {
         Value::Parts { kind, list } => {
             assert_eq!(rt; (*kind, list.len()), (Kind::MultipleString, 2));
-            assert_eq!(rt; *list.get(0), [0x41, 0].as_slice());
-            assert_eq!(rt; list.get(1).len(), 0);
+            assert_eq!(rt; list.get(0).bytes, [0x41, 0].as_slice());
+            assert_eq!(rt; list.get(1).bytes.len(), 0);
         }
         _ => return Err("texts".into()),
     }
-    let named = read_list(alloc, &NAMED, 0, 0, Part::Top, &mut passed)
+    let named: ReadList<'_, Kept<'_>> = read_list(alloc, &NAMED, 0, 0, Part::Top, &mut passed)
         .ok()
         .ok_or("a list")?;
     assert_eq!(rt; named.props.len(), 1);
@@ -68,7 +104,15 @@ fn faults_of_lists(rt: HostRuntime) -> Result<(), Fail> {
     ];
     for (bytes, reason, offset) in table {
         let mut passed = PassedList::new(alloc);
-        match read_list(alloc, bytes, 0, 49, Part::Attachment, &mut passed) {
+        let read: Result<ReadList<'_, Kept<'_>>, Stop> = read_list(
+            alloc,
+            bytes,
+            0,
+            49,
+            Part::Attachment,
+            &mut passed,
+        );
+        match read {
             Err(Stop::Fault(g)) => assert_eq!(rt; g, Fault { reason, offset }),
             _ => return Err("a fault".into()),
         }

@@ -31,7 +31,7 @@ returns-then-attribute-eq-MESSAGE_LIST-clause-found c = λ levels.
     record {
       given_part = part (plain.message_list c.in_ok-list.list.props) x.more;
       means = message_means (objects_at levels) a (list_seen c.in_ok-list.list x.more) _ _ e x.spans;
-      given = ap plain.message_list (sym c.in_ok-into_held.ensures);
+      given = refl;
       passed = x.passed;
       fits = e;
     }

@@ -1,6 +1,5 @@
-use Rattle.std.proofs.Common.{List, [], ◌∷◌, ◌++◌, ap, ◌∙◌, arith}
+use Rattle.std.proofs.Common.{arith}
 use Rattle.std.proofs.lemmas.Result.{err_from_is_err_and}
-use Rattle.carrier_model.specs.Values.{Prop}
 use Rattle.tnef_props.specs.ReadLists.{list_seen}
 use Rattle.tnef_message.proofs.Tables.{no_count, rows_none, rows_more, rows_stop, rows_all}
 use Rattle.tnef_message.proofs.contents.recipients_in.Goals as goal
@@ -21,7 +20,7 @@ pub loop-k-preserved : goal.loop-k-preserved
 loop-k-preserved c =
     let l = c.loop-k in
     let x = c.in_ok-list.ensures.found in
-    rows_more c.args.at c.args.bytes.now c.u32_at-count.result l._k l.recipients c.args.passed.now l.passed l.from l.invariant c.loop-k-test.true (list_seen c.in_ok-list.list x.more) c.in_ok-list.list.end c.push.new.self c.read_list.new.passed x.spans (c.in_ok-push.ensures.ok ∙ ap (λ (p : List Prop). l.recipients ++ p ∷ []) c.in_ok-into_held.ensures) x.passed
+    rows_more c.args.at c.args.bytes.now c.u32_at-count.result l._k l.recipients c.args.passed.now l.passed l.from l.invariant c.loop-k-test.true (list_seen c.in_ok-list.list x.more) c.in_ok-list.list.end c.push.new.self c.read_list.new.passed x.spans c.in_ok-push.ensures.ok x.passed
 
 pub returns-clause-found : goal.returns-clause-found
 returns-clause-found c =

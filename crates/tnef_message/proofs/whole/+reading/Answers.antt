@@ -1,4 +1,4 @@
-use Rattle.std.proofs.Common.{◌≡◌, ◌+◌, ◌-◌, ◌≤◌, [], ◌++◌, inl, inr, length, true, Some, None, sym, ap, subst, ◌∙◌, append_assoc, arith}
+use Rattle.std.proofs.Common.{◌≡◌, ◌+◌, ◌-◌, ◌≤◌, [], ◌++◌, inl, inr, length, true, Some, None, refl, sym, ap, subst, ◌∙◌, append_assoc, arith}
 use Rattle.std.specs.Prelude.{slice_get}
 use Rattle.std.proofs.lemmas.List.{append-nil}
 use Rattle.std.specs.Option.{option_map}
@@ -55,7 +55,7 @@ attachment_gift-returns-in_ok-body-in-Some-clause-found t c =
     record {
       given_part = with_inner l (Some h);
       means = with_object (objects_at c.args.levels) a c.requires.list l (object_of o) h _ _ (ap (option_map object_of) c.in-Some.is) y.means x.spans;
-      given = ap (λ props. plain.attachment props h.body) (sym c.in_ok-props.ensures);
+      given = refl;
       passed = y.passed ∙ ap (λ z. z ++ y.more) x.passed ∙ append_assoc c.args.passed.now x.more y.more;
       fits = c.requires.list;
     }
@@ -68,7 +68,7 @@ attachment_gift-returns-in-None-clause-found t c =
     record {
       given_part = with_inner l None;
       means = without_object (objects_at c.args.levels) a c.requires.list l _ _ (ap (option_map object_of) c.in-None.is) x.spans;
-      given = (λ i. plain.attachment (sym c.in_ok-props.ensures i) (sym (plain_made held_bytes) i));
+      given = ap (plain.attachment c.in_ok-list.list.props) (sym (plain_made held_bytes));
       passed = x.passed;
       fits = c.requires.list;
     }

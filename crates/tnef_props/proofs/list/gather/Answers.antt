@@ -8,7 +8,7 @@ use Rattle.tnef_props.proofs.ListForms.{double_fails}
 use Rattle.tnef_props.proofs.list.gather.Goals as goal
 
 pub returns-in-Err-Duplicate-clause-fault : goal.returns-in-Err-Duplicate-clause-fault
-returns-in-Err-Duplicate-clause-fault c =
+returns-in-Err-Duplicate-clause-fault g c =
     let told : fault_of c.double_at.result ≡ (DUPLICATE_LIST_PROPERTY, c.in-Err-Duplicate.offset) = rw c.in-Err-Duplicate.offset-is at c.double_at.ensures in
     subst (λ (h : ℕ × ℕ). (prop_list c.args.in_attachment).fails c.args.from.place c.args.from.bytes.now h) (sym told)
     (double_fails c.args.in_attachment c.args.from c.scan-scanned.new.draft.arrivals c.in-Err-Duplicate.offset c.scan-scanned.ensures.double

@@ -10,7 +10,7 @@ use Rattle.tnef_props.proofs.ReadForms.{list_alone, list_fault, spans_end}
 use Rattle.tnef_props.proofs.list.read_list.Goals as goal
 
 pub returns-in_err-props-clause-fault : goal.returns-in_err-props-clause-fault
-returns-in_err-props-clause-fault c =
+returns-in_err-props-clause-fault g c =
     let p = err_from_is_err_and c.from_residual.result c.from_residual.ensures.1 in
     let at = c.args.at + c.args.from in
     let bytes = drop c.args.from c.args.bytes.now in
@@ -21,7 +21,7 @@ returns-in_err-props-clause-fault c =
     rw (p.1, p.2) (list_fault (is_attachment c.args.part) at bytes s here)
 
 pub returns-clause-found : goal.returns-clause-found
-returns-clause-found c =
+returns-clause-found g c =
     let at = c.args.at + c.args.from in
     let bytes = drop c.args.from c.args.bytes.now in
     let g = c.in_ok-props.ensures.found in
