@@ -36,7 +36,8 @@ impl<'t, B: Blob> Model for Plan<'t, B> {
 }
 
 impl<'t, B: Blob> Plan<'t, B> {
-    ghost use Rattle.std.specs.Prelude.{◌≡◌, length, IfOk, IfErr};
+    ghost use Rattle.std.specs.Prelude.{◌≡◌, ◌≤◌, length, IfOk, IfErr};
+    ghost use Rattle.carrier_model.specs.Bytes.{MOST_BYTES};
     ghost use Rattle.cfb_list.specs.Listed.{tree_of};
     ghost use Rattle.cfb_writer.specs.Planned.{layout_of};
     ghost use Rattle.cfb_writer.specs.PlanEnds.{IsEndOf};
@@ -74,6 +75,7 @@ impl<'t, B: Blob> Plan<'t, B> {
         files: FileList<'t, B>,
     ) -> Result<Plan<'t, B>, PlanEnd>
         ensures ok { IfOk result (λ p. p ≡ layout_of (sector_of version) files.entry.root_class (tree_of files.entry.storages)) }
+        ensures fits { IfOk result (λ p. length p ≤ MOST_BYTES) }
         ensures end { IfErr result (IsEndOf (layout_of (sector_of version) files.entry.root_class (tree_of files.entry.storages))) }
     {
         let list = files.sorted()?;

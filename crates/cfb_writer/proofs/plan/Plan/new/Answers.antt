@@ -33,3 +33,12 @@ returns-clause-ok g c =
     let some : 0 < length c.in_ok-totals.totals.items = omega (arith, c.in_ok-totals.ensures.many, c.in_ok-list.ensures.sound.some) in
     let first : c.index.result.now ≡ totals_of (sector_of c.args.version) (tree_of list.storages) = c.index.ensures ∙ c.in_ok-totals.ensures.known 0 c.index.result.now (omega arith) some in
     c.of_parts.ensures ∙ file_is c.args.version c.args.files.root_class c.args.files.storages (tree_of list.storages) c.in_ok-entries.entries _ tree laid (c.in-Ok.ensures _ _ _ first).1
+
+pub returns-clause-fits : goal.returns-clause-fits
+returns-clause-fits g c =
+    let list = c.in_ok-list.list in
+    let some : 0 < length c.in_ok-totals.totals.items = omega (arith, c.in_ok-totals.ensures.many, c.in_ok-list.ensures.sound.some) in
+    let first : c.index.result.now ≡ totals_of (sector_of c.args.version) (tree_of list.storages) = c.index.ensures ∙ c.in_ok-totals.ensures.known 0 c.index.result.now (omega arith) some in
+    let measure = c.in-Ok.ensures _ _ _ first in
+    let kept = plan_of_files c.args.version list.root_class (tree_of list.storages) c.in_ok-entries.entries c.in-Ok.measure c.in_ok-entries.ensures c.in_ok-list.ensures.class (sound_fits list.storages c.in_ok-list.ensures.sound) measure in
+    rw (c.of_parts.ensures, ← kept.whole) measure.3
