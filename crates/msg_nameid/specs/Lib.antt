@@ -1,1 +1,6 @@
+pub mod Drafts
 pub mod Maps
+pub mod Orders
+pub mod Read
+pub mod Spots
+pub mod Tables

@@ -1,8 +1,16 @@
 //! The name map of a .msg file: for which names the ids of its named properties stand. [MS-OXMSG 2.2.3]
 #![tactic(auto)]
 
+mod drafts;
+mod entry;
 mod map;
+mod order;
 mod reading;
+mod slots;
+mod texts;
 mod writing;
 
 pub use map::NameMap;
+
+#[cfg(test)]
+mod tests;

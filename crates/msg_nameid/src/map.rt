@@ -1,10 +1,14 @@
 //! Ids and the names for which they stand.
-ghost use Rattle.std.specs.Prelude.{◌≡◌, ◌≤◌, ℕ, length, Contains, IfOk, Some};
+ghost use Rattle.std.specs.Prelude.{◌≡◌, ◌≤◌, length, Contains, IfOk, IfSome, Some};
 ghost use Rattle.std.specs.Option.{option_map};
 ghost use Rattle.carrier_model.specs.Keys as keys;
 ghost use Rattle.msg_model.specs.NameMap.{name_for, pairs_from};
 ghost use Rattle.prop_names.specs.Meaning.{name_of};
+ghost use Rattle.msg_nameid.specs.Drafts.{IsWhole, pairs_in};
 
+use crate::drafts::Draft;
+use crate::order::{least_id, order_of};
+use crate::slots::{Slot, Slots};
 use carrier_io::NoMemory;
 use prop_names::{Name, NameSet};
 use std::alloc::Global;
@@ -21,16 +25,29 @@ pub struct Entry {
 #[derive(Drop)]
 pub struct NameMap {
     pub(crate) entries: Vec<Entry>,
+    // What each property index has.
+    slots: Slots,
+    // The places of the entries, by name and then by id.
+    order: Vec<u16>,
 }
 
 impl Model for NameMap {
-    ghost use Rattle.std.specs.Prelude.{List, map};
+    ghost use Rattle.std.specs.Prelude.{List, map, All};
+    ghost use Rattle.carrier_model.specs.Keys.{IsName};
     ghost use Rattle.msg_model.specs.NameMap.{Pair};
-    ghost use Rattle.msg_nameid.specs.Maps.{pair_of};
+    ghost use Rattle.msg_nameid.specs.Maps.{pair_of, names_in};
+    ghost use Rattle.msg_nameid.specs.Orders.{IsOrderOf};
+    ghost use Rattle.msg_nameid.specs.Tables.{IsTable};
 
     ghost Value = { List Pair };
 
     ghost view = { λ s. map pair_of s.entries.items };
+
+    ghost invariant = { λ s. record {
+      table : IsTable s.slots (map pair_of s.entries.items);
+      names : All IsName (names_in (map pair_of s.entries.items));
+      order : IsOrderOf (map pair_of s.entries.items) s.order.items;
+    } };
 }
 
 impl NameMap {
@@ -42,21 +59,41 @@ impl NameMap {
         ensures pairs { IfOk result (λ m. m ≡ pairs_from 0 names.now) }
         ensures assigned { IfOk result IsAssigned }
     {
-        let _names = names;
-        let _alloc = alloc;
-        Err(NoMemory)
+        let mut draft = Draft::new(alloc);
+        for k in 0..names.len() {
+            let name = names.get(k).copy(alloc)?;
+            draft.add_name(k as u16, name)?;
+        }
+        NameMap::from_draft(alloc, draft)
+    }
+
+    /// The map of names that were gathered.
+    pub(crate) fn from_draft(alloc: Global, draft: Draft) -> Result<NameMap, NoMemory>
+        requires { IsWhole draft }
+        ensures { IfOk result (λ m. m ≡ pairs_in draft) }
+    {
+        let Draft { entries, slots } = draft;
+        let order = order_of(alloc, &entries)?;
+        Ok(NameMap {
+            entries,
+            slots,
+            order,
+        })
     }
 
     /// The name for which an id stands; None where it stands for none.
     pub fn name_of(&self, id: u16) -> Option<&Name>
-        ensures { option_map (λ n. name_of n.now) result ≡ name_for self.now id }
+        ensures name { option_map (λ n. name_of n.now) result ≡ name_for self.now id }
+        ensures short { IfSome result (λ n. keys.IsName (name_of n.now)) }
     {
-        for entry in &self.entries {
-            if entry.id == id {
-                return Some(&entry.name);
-            }
+        let slots = &self.slots;
+        if id < 0x8000 {
+            return None;
         }
-        None
+        match slots.get(id - 0x8000) {
+            Slot::Named(place) => Some(&self.entries[usize::from(place)].name),
+            _ => None,
+        }
     }
 
     /// The least id of a name; None where it has none.
@@ -64,12 +101,6 @@ impl NameMap {
         ensures least { IsLeastId self.now (name_of name.now) result }
         ensures assigned { IsAssigned self.now → Contains (names_in self.now) (name_of name.now) → result ≡ Some (keys.id_of (names_in self.now) (name_of name.now)) }
     {
-        let mut least = None;
-        for entry in &self.entries {
-            if entry.name.order(name).is_eq() {
-                least = Some(entry.id);
-            }
-        }
-        least
+        least_id(&self.entries, &self.order, name)
     }
 }

@@ -1,0 +1,23 @@
+use Rattle.std.proofs.Common.{◌≡◌, ◌∙◌, map, sym, ap, arith}
+use Rattle.std.specs.declared.cmp.Ordering.TheVariants.{Equal}
+use Rattle.carrier_model.specs.Keys.{name_cmp}
+use Rattle.msg_model.specs.NameMap.{Pair}
+use Rattle.prop_names.specs.Meaning.{name_of}
+use Rattle.msg_nameid.specs.Maps.{pair_of}
+use Rattle.msg_nameid.specs.Orders.{pair_by}
+use Rattle.msg_nameid.proofs.OrderLaws.{none_left, none_there, least_there}
+use Rattle.msg_nameid.proofs.order.least_id.Goals as goal
+
+pub returns-then-at-order : goal.returns-then-at-order
+returns-then-at-order c = none_left (map pair_of c.args.entries.now) c.args.order.now (name_of c.args.name.now) c.requires c.count_below-at.result c.count_below-at.ensures (omega arith)
+
+pub returns-in-Equal : goal.returns-in-Equal
+returns-in-Equal c =
+    let name = name_of c.args.name.now in
+    let equal : name_cmp (pair_by (map pair_of c.args.entries.now) c.args.order.now c.count_below-at.result).1 name ≡ Equal = ap (λ (p : Pair). name_cmp p.1 name) (sym c.entry_by-entry.ensures) ∙ (sym c.order.ensures.order ∙ c.in-Equal.is) in
+    least_there (map pair_of c.args.entries.now) c.args.order.now name c.requires c.count_below-at.result c.count_below-at.ensures (omega arith) equal c.entry_by-entry.result.now.id (ap (λ (p : Pair). p.0) c.entry_by-entry.ensures)
+
+pub returns-in_default : goal.returns-in_default
+returns-in_default c =
+    let name = name_of c.args.name.now in
+    none_there (map pair_of c.args.entries.now) c.args.order.now name c.requires c.count_below-at.result c.count_below-at.ensures (omega arith) (λ e. c.in_default.not-Equal (c.order.ensures.order ∙ (ap (λ (p : Pair). name_cmp p.1 name) c.entry_by-entry.ensures ∙ e)))
