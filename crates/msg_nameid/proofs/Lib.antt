@@ -5,8 +5,3 @@ pub mod OrderLaws
 pub mod StreamLaws
 pub mod TableLaws
 pub mod TextLaws
-pub mod AddedFiles
-pub mod GatheredLaws
-pub mod HashSteps
-pub mod SetLists
-pub mod TextSteps

@@ -49,9 +49,6 @@ later_above p q name order ge = by (is_lt (name_cmp q.1 name)) refl
 
 -- ---- a search
 
-pub front_none : (pairs : List Pair) (order : List ℕ) (name : Name) (high : ℕ) → high ≡ length order → record { ordered : 0 ≤ high; within : high ≤ length order; below : (k : ℕ) → k < 0 → is_lt (name_cmp (pair_by pairs order k).1 name) ≡ true; above : (k : ℕ) → high ≤ k → k < length order → is_lt (name_cmp (pair_by pairs order k).1 name) ≡ false }
-front_none pairs order name high e = record { ordered = omega arith; within = omega arith; below = λ k lt. absurd (omega (arith, lt)); above = λ k le lt. absurd (omega (arith, le, lt)) }
-
 module _ (pairs : List Pair) (order : List ℕ) (name : Name) (o : IsOrderOf pairs order) where
   -- all before a pair that is below the name
   pub all_below : (m k : ℕ) → m < length order → is_lt (name_cmp (pair_by pairs order m).1 name) ≡ true → k < m + 1 → is_lt (name_cmp (pair_by pairs order k).1 name) ≡ true

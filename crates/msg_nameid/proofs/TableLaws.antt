@@ -1,10 +1,8 @@
 -- Slots, and the names to which they lead.
 use Rattle.std.proofs.Common.{◌≡◌, ℕ, zero, suc, ◌+◌, ◌-◌, ◌<◌, ◌≤◌, Bool, true, false, List, [], ◌∷◌, ◌++◌, length, refl, sym, ap, subst, ◌∙◌, arith, Option, Some, None, length-append}
-use Rattle.std.specs.Prelude.{if◌then◌else◌, ◌||◌, nat_eq, slice_get, replicate}
+use Rattle.std.specs.Prelude.{if◌then◌else◌, nat_eq, slice_get, replicate}
 use Rattle.std.specs.Option.{option_map}
 use Rattle.std.proofs.Math.ListN.{set}
-use Rattle.std.proofs.lemmas.Grind.{get_or-set_at}
-use Rattle.std.proofs.lemmas.List.{get_or-set_other}
 use Rattle.std.proofs.lemmas.Bool.{cond-true, cond-false, eqb-true, eqb-false, eq-eqb, ne_eqb}
 use Rattle.carrier_model.specs.Keys.{Name}
 use Rattle.msg_model.specs.NameMap.{Pair, name_for}
@@ -13,16 +11,6 @@ use Rattle.msg_nameid.specs.declared.slots.Slot.{Slot}
 use Rattle.msg_nameid.specs.declared.slots.Slot.TheVariants.{Free, Nameless, Named}
 
 -- ---- slots
-
-free_at : (n k : ℕ) → slot_at (replicate n Free) k ≡ Free
-free_at zero k = refl
-free_at (suc n) zero = refl
-free_at (suc n) (suc k) = free_at n k
-
-pub slot_at-longer : (slots : List Slot) (n k : ℕ) → slot_at (slots ++ replicate n Free) k ≡ slot_at slots k
-slot_at-longer [] n k = free_at n k
-slot_at-longer (s ∷ slots) n zero = refl
-slot_at-longer (s ∷ slots) n (suc k) = slot_at-longer slots n k
 
 no_free_taken : (n : ℕ) → count_taken (replicate n Free) ≡ 0
 no_free_taken zero = refl
@@ -37,13 +25,6 @@ count_taken_le [] = omega arith
 count_taken_le (Free ∷ slots) = omega (arith, count_taken_le slots)
 count_taken_le (Nameless ∷ slots) = omega (arith, count_taken_le slots)
 count_taken_le (Named place ∷ slots) = omega (arith, count_taken_le slots)
-
-pub slot_at-set : (slots : List Slot) (i : ℕ) (x : Slot) (k : ℕ) → i < length slots → slot_at (set slots i x) k ≡ (if nat_eq k i then x else slot_at slots k)
-slot_at-set slots i x k lt = by (nat_eq k i) refl
-  where
-    by : (b : Bool) → nat_eq k i ≡ b → slot_at (set slots i x) k ≡ (if nat_eq k i then x else slot_at slots k)
-    by true e = get_or-set_at slots i k x Free (eqb-true k i e) lt ∙ sym (cond-true (nat_eq k i) x (slot_at slots k) e)
-    by false e = get_or-set_other slots i k x Free (eqb-false k i e) ∙ sym (cond-false (nat_eq k i) x (slot_at slots k) e)
 
 pub count_taken-set : (slots : List Slot) (i : ℕ) (x : Slot) → i < length slots → is_taken (slot_at slots i) ≡ false → is_taken x ≡ true → count_taken (set slots i x) ≡ count_taken slots + 1
 count_taken-set [] i x lt free taken = absurd (omega (arith, lt))
@@ -96,9 +77,6 @@ placed-more n (Named place) h = omega (arith, h)
 
 -- ---- tables
 
-pub table-none : IsTable [] []
-table-none = record { few = omega arith; counted = omega arith; placed = λ k. tt; low = λ n lt. refl; each = λ k. refl }
-
 pub pairs_few : (slots : List Slot) (pairs : List Pair) → IsTable slots pairs → length pairs ≤ 0x8000
 pairs_few slots pairs t = omega (arith, t.counted, t.few, count_taken_le slots)
 
@@ -138,26 +116,6 @@ module _ (slots new : List Slot) (pairs : List Pair) (k : ℕ) (t : IsTable slot
           ∙ (sym (name_in-more pairs (0x8000 + k, x) (slot_at slots j) (t.placed j))
           ∙ ap (name_in (pairs ++ (0x8000 + k, x) ∷ [])) (sym here)))
 
-  pub table-nameless : ((j : ℕ) → slot_at new j ≡ (if nat_eq j k then Nameless else slot_at slots j)) → IsTable new pairs
-  table-nameless are = record {
-    few = few;
-    counted = omega (arith, t.counted, count);
-    placed = λ j. subst (IsPlaced (length pairs)) (sym (are j)) (placed_by j (nat_eq j k));
-    low = t.low;
-    each = λ j. each_by j (nat_eq j k) refl;
-  }
-    where
-      placed_by : (j : ℕ) (b : Bool) → IsPlaced (length pairs) (if b then Nameless else slot_at slots j)
-      placed_by j true = tt
-      placed_by j false = t.placed j
-
-      each_by : (j : ℕ) (b : Bool) → nat_eq j k ≡ b → name_for pairs (0x8000 + j) ≡ name_in pairs (slot_at new j)
-      each_by j true e =
-          let same : j ≡ k = eqb-true j k e in
-          let here : slot_at new j ≡ Nameless = are j ∙ cond-true (nat_eq j k) _ _ e in
-          ap (λ (n : ℕ). name_for pairs (0x8000 + n)) same ∙ (none_yet ∙ ap (name_in pairs) (sym here))
-      each_by j false e = t.each j ∙ ap (name_in pairs) (sym (are j ∙ cond-false (nat_eq j k) _ _ e))
-
 -- the name to which a slot leads
 pub named : (slots : List Slot) (pairs : List Pair) (t : IsTable slots pairs) (id place : ℕ) (p : Pair) → 0x8000 ≤ id → slot_at slots (id - 0x8000) ≡ Named place → slice_get pairs place ≡ Some p → name_for pairs id ≡ Some p.1
 named slots pairs t id place p high h at =
@@ -166,11 +124,3 @@ named slots pairs t id place p high h at =
 
 pub placed_there : (slots : List Slot) (pairs : List Pair) (t : IsTable slots pairs) (k place : ℕ) → slot_at slots k ≡ Named place → place < length pairs
 placed_there slots pairs t k place h = subst (IsPlaced (length pairs)) h (t.placed k)
-
--- which indexes are taken then
-pub taken_more : (slots new : List Slot) (x : Slot) (k : ℕ) → is_taken x ≡ true → ((j : ℕ) → slot_at new j ≡ (if nat_eq j k then x else slot_at slots j)) → (j : ℕ) → is_taken (slot_at new j) ≡ (nat_eq j k || is_taken (slot_at slots j))
-taken_more slots new x k taken are j = ap is_taken (are j) ∙ by (nat_eq j k)
-  where
-    by : (b : Bool) → is_taken (if b then x else slot_at slots j) ≡ (b || is_taken (slot_at slots j))
-    by true = taken
-    by false = refl

@@ -1,5 +1,4 @@
 pub mod Drafts
-pub mod Gathered
 pub mod Maps
 pub mod Orders
 pub mod Read

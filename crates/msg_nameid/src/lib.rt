@@ -3,12 +3,9 @@
 
 mod drafts;
 mod entry;
-mod gathering;
-mod hashes;
 mod map;
 mod order;
 mod reading;
-mod sets;
 mod slots;
 mod texts;
 mod writing;
@@ -17,5 +14,3 @@ pub use map::NameMap;
 
 #[cfg(test)]
 mod tests;
-#[cfg(test)]
-mod writing_tests;
