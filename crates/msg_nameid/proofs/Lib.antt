@@ -1,7 +1,12 @@
+pub mod AddedFiles
 pub mod AssignedLaws
 pub mod DraftLaws
+pub mod GatheredLaws
+pub mod HashSteps
 pub mod NameLaws
 pub mod OrderLaws
+pub mod SetLists
 pub mod StreamLaws
 pub mod TableLaws
 pub mod TextLaws
+pub mod TextSteps

@@ -1,4 +1,5 @@
 pub mod Drafts
+pub mod Gathered
 pub mod Maps
 pub mod Orders
 pub mod Read

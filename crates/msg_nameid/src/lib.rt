@@ -3,9 +3,12 @@
 
 mod drafts;
 mod entry;
+mod gathering;
+mod hashes;
 mod map;
 mod order;
 mod reading;
+mod sets;
 mod slots;
 mod texts;
 mod writing;
@@ -14,3 +17,5 @@ pub use map::NameMap;
 
 #[cfg(test)]
 mod tests;
+#[cfg(test)]
+mod writing_tests;
