@@ -14,3 +14,6 @@ mod writing;
 
 pub use reading::{Section, read_props};
 pub use writing::{Head, add_props};
+
+#[cfg(test)]
+mod reading_tests;
