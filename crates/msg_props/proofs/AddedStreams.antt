@@ -1,10 +1,10 @@
 -- A list of storages to which streams are added.
-use Rattle.std.proofs.Common.{◌≡◌, ℕ, suc, zero, ◌+◌, ◌<◌, ◌≤◌, List, [], ◌∷◌, ◌++◌, Some, length, take, take_all, map, Option, refl, sym, ap, subst, ◌∙◌, Result, arith}
+use Rattle.std.proofs.Common.{◌≡◌, ℕ, suc, zero, ◌+◌, ◌≤◌, List, [], ◌∷◌, ◌++◌, Some, length, take, take_all, map, Option, refl, sym, ap, subst, ◌∙◌, Result, arith}
 use Rattle.std.specs.Prelude.{slice_get, replicate, OnOk}
 use Rattle.std.specs.List.{flat_map, zip}
 use Rattle.carrier_model.specs.FileTrees.{FileTree, and_files, streams_from, stream}
 use Rattle.carrier_model.proofs.Messages.{taken_at}
-use Rattle.cfb_list.specs.Grown.{grown, storages_in}
+use Rattle.cfb_list.specs.Grown.{grown}
 use Rattle.cfb_list.specs.Listed.{Child, Listed}
 use Rattle.msg_model.specs.StreamNames.{element_name, value_name}
 use Rattle.carrier_model.specs.Keys.{Name}
@@ -19,21 +19,8 @@ use Rattle.msg_props.proofs.TaggedLists.{flat_map_more, zip_at, zip_length, zipp
 abbrev pub Steps : Type 0
 Steps = (storages : List (List Child)) (parent : ℕ) (files more : FileTree) → grown (grown storages parent files) parent more ≡ grown storages parent (and_files files more)
 
-abbrev pub Counted : Type 0
-Counted = (storages : List (List Child)) (parent : ℕ) (files : FileTree) → length (grown storages parent files) ≡ length storages + storages_in files
-
 abbrev pub Streams : Type 0
 Streams = List (List ℕ × List ℕ)
-
-no_storages : (xs : Streams) → storages_in (streams_from xs) ≡ 0
-no_storages [] = refl
-no_storages (x ∷ xs) = no_storages xs
-
--- the number of a storage stays one
-pub stays_within : Counted → (first now : Listed) (at : ℕ) (xs : Streams) → now ≡ with_streams first at xs → at < length first.storages → at < length now.storages
-stays_within counted first now at xs e lt =
-    let long : length now.storages ≡ length (grown first.storages at (streams_from xs)) = ap (λ (l : Listed). length l.storages) e in
-    omega (arith, long, counted first.storages at (streams_from xs), lt)
 
 streams_joined : (xs ys : Streams) → and_files (streams_from xs) (streams_from ys) ≡ streams_from (xs ++ ys)
 streams_joined [] ys = refl
