@@ -67,3 +67,8 @@ module _ {A B P : Type 0} (read : A → Result B Fault) (part : B → P) (over :
 
   pub progress_all : {W : Type 0} (whole : List B → W) (k : ℕ) (now : List Passed) (parts : List P) (p : Progress read part over xs k old now parts) → length xs ≤ k → mapped whole (each read xs) ≡ Ok (whole p.given)
   progress_all whole k now parts p le = ap (mapped whole) (ap (each read) (sym (take_all k xs le)) ∙ p.turns)
+
+-- what three readers pass over, one behind the other
+pub passed_thrice : (old a b c x y z : List Passed) → a ≡ old ++ x → b ≡ a ++ y → c ≡ b ++ z → c ≡ old ++ (x ++ (y ++ z))
+passed_thrice old a b c x y z p q r =
+    r ∙ (ap (λ l. l ++ z) (q ∙ ap (λ l. l ++ y) p) ∙ (append_assoc (old ++ x) y z ∙ append_assoc old x (y ++ z)))
