@@ -1,10 +1,9 @@
 -- Names that are a prefix and digits, read unit by unit.
 
-use Rattle.std.proofs.Common.{◌≡◌, ◌⊎◌, inl, inr, ℕ, zero, suc, ◌+◌, ◌*◌, ◌-◌, ◌≤◌, ◌<◌, ◌^◌, Bool, true, false, ◌&&◌, List, [], ◌∷◌, ◌++◌, length, map, take, drop, get_or, Option, Some, None, refl, sym, ap, subst, ◌∙◌, take_all, add-one, arith}
-use Rattle.std.specs.Prelude.{cond, ◌||◌, nat_eq, nat_le, fold, slice_get, ◌==◌}
+use Rattle.std.proofs.Common.{◌≡◌, ℕ, zero, ◌+◌, ◌*◌, ◌-◌, ◌≤◌, ◌<◌, ◌^◌, Bool, true, false, ◌&&◌, List, [], ◌∷◌, ◌++◌, length, map, take, drop, get_or, Option, Some, None, refl, sym, ap, ◌∙◌, take_all, add-one, arith}
+use Rattle.std.specs.Prelude.{cond, ◌||◌, nat_le, slice_get, ◌==◌}
 use Rattle.std.specs.List.{list_all}
 use Rattle.std.specs.Char.{to_ascii_lowercase}
-use Rattle.std.specs.Cmp.Lexicographic.{pointwise}
 use Rattle.std.proofs.Math.Nat.{pow-le-pow_right, pow-succ'}
 use Rattle.std.proofs.lemmas.Bool.{and_parts, leb-true, le-leb, lt-leb, cond-true, cond-false, ne_eqb, eq-eqb}
 use Rattle.std.proofs.lemmas.List.{map-append, take-append-drop, drop-map, length-map, length-drop, get_or-map}
@@ -17,7 +16,7 @@ use Rattle.carrier_model.specs.Lookups.{same_name}
 use Rattle.carrier_model.proofs.Messages.{taken_at}
 use Rattle.carrier_model.proofs.Trees.{drop_at}
 use Rattle.msg_model.specs.MsgMessage.{is_hex, hex_number, number_in}
-use Rattle.msg_storage.specs.Numbered.{digit_of, digit_in, digits_of}
+use Rattle.msg_storage.specs.Numbered.{digit_of, digits_of}
 
 -- so many digits are read, and their number
 pub record DigitsRead (units : List ℕ) (k number : ℕ) : Type 0 where

@@ -1,5 +1,5 @@
 -- The message of all files of a .msg.
-use Rattle.std.proofs.Common.{◌≡◌, ◌∙◌, ℕ, List, Bool, true, false, Option, Some, None, Result, Ok, Err, refl, ap}
+use Rattle.std.proofs.Common.{◌≡◌, List, true, false, Option, Some, None, Result, Ok, Err, refl, ap}
 use Rattle.std.specs.Prelude.{is_some}
 use Rattle.std.specs.Option.{option_map}
 use Rattle.std.specs.String.{IsUtf16Of}

@@ -223,17 +223,22 @@ fn read_inner<'a>(
 
 /// The message that the files of a .msg mean, and what stands beside it, in reading order; or the first fault: of the name
 /// map, and then of the message, list by list. Values stay in the input. [MS-OXMSG 2.1 to 2.4]
-pub fn read_msg<'a>(
-    alloc: Global,
-    files: &Files<'a>,
-) -> Result<Accepted<StreamView<'a>>, Stop>
+pub fn read_msg<'a>(alloc: Global, files: &Files<'a>) -> Result<Accepted<StreamView<'a>>, Stop>
     ensures answer { Gives meaning_in result (files_meaning (files_seen files.now)) }
     ensures both { Reads meaning_in result (FilesMean (files_seen files.now)) (λ g. files_meaning (files_seen files.now) ≡ Err g) }
 {
     let names = NameMap::read(alloc, files)?;
     let mut passed = PassedList::new(alloc);
     let root = files.root();
-    let message = read_message(alloc, files, root, Part::Top, &names, GREATEST_LEVEL, &mut passed)?;
+    let message = read_message(
+        alloc,
+        files,
+        root,
+        Part::Top,
+        &names,
+        GREATEST_LEVEL,
+        &mut passed,
+    )?;
     match Tree::new(message) {
         Ok(tree) => Ok(Accepted { tree, passed }),
         Err(_) => Err(Stop::NoMemory),

@@ -1,16 +1,14 @@
-use Rattle.std.proofs.Common.{◌≡◌, ◌∙◌, ◌≤◌, ◌++◌, [], List, Ok, Err, Some, None, ap, append_assoc, arith, false, length, subst, sym, true, Bool}
-use Rattle.std.specs.Prelude.{is_some, slice_get}
-use Rattle.std.specs.Option.{option_map}
+use Rattle.std.proofs.Common.{◌≡◌, ◌∙◌, ◌≤◌, ◌++◌, [], List, Ok, Err, Some, ap, append_assoc, arith, false, length, subst, sym, true, Bool}
+use Rattle.std.specs.Prelude.{slice_get}
 use Rattle.std.specs.List.{flat_map}
 use Rattle.std.proofs.lemmas.List.{append-nil}
 use Rattle.std.proofs.lemmas.Result.{err_from_is_err_and}
 use Rattle.carrier_model.specs.Files as plain
 use Rattle.carrier_model.specs.Kinds.{ATTACHED_OBJECT}
-use Rattle.carrier_model.specs.Lookups.{storage_named, stream_named}
-use Rattle.carrier_model.specs.Meanings.{Held, held_store}
+use Rattle.carrier_model.specs.Lookups.{stream_named}
+use Rattle.carrier_model.specs.Meanings.{held_store}
 use Rattle.carrier_model.specs.Outcomes.{mapped}
 use Rattle.carrier_model.specs.Stores.{PROPERTIES, store_in}
-use Rattle.carrier_model.specs.Tree.{Message, Attached, message, attachments_from}
 use Rattle.carrier_model.specs.Turns.{each}
 use Rattle.cfb_directory.specs.Found.{storage_seen}
 use Rattle.cfb_sectors.specs.Seen.{bytes_of}
@@ -25,7 +23,7 @@ use Rattle.msg_storage.proofs.Messages.{held_below, held_missing, holding, messa
 use Rattle.msg_storage.proofs.Rows.{seen_length, seen_storages, storage_there, storages_are}
 use Rattle.msg_storage.proofs.Turned.{fails_with, list_read, passed_thrice, progress_all, progress_more, progress_none, progress_stops, section_beside}
 use Rattle.msg_storage.proofs.WholeFiles.{none_there, object_text, properties_text, some_there}
-use Rattle.msg_tree.specs.Meaning.{list_of, tree_of, attached_of, body_of}
+use Rattle.msg_tree.specs.Meaning.{list_of}
 use Rattle.msg_storage.proofs.reading.+reading.Goals as goal
 
 -- ---- an attachment

@@ -1,6 +1,5 @@
-use Rattle.std.proofs.Common.{◌≡◌, ◌∙◌, ◌++◌, Ok, ap, subst, sym}
+use Rattle.std.proofs.Common.{◌∙◌, ◌++◌, Ok, ap, sym}
 use Rattle.std.proofs.lemmas.Result.{err_from_is_err_and}
-use Rattle.carrier_model.specs.Files as plain
 use Rattle.carrier_model.specs.Tree.{GREATEST_LEVEL}
 use Rattle.cfb_directory.specs.Found.{storage_seen}
 use Rattle.cfb_directory.specs.Shown.{files}
