@@ -1,25 +1,24 @@
 -- Storages that are added one by one.
-use Rattle.std.proofs.Common.{◌≡◌, ℕ, zero, suc, ◌+◌, ◌≤◌, ◌<◌, List, [], ◌∷◌, ◌++◌, length, take, Bool, None, Some, Option, Result, Ok, Err, refl, sym, ap, subst, ◌∙◌, take_all, arith}
-use Rattle.std.specs.Prelude.{Contains, OnOk, slice_get, replicate}
+use Rattle.std.proofs.Common.{◌≡◌, ℕ, zero, suc, ◌+◌, ◌<◌, List, [], ◌∷◌, ◌++◌, length, take, None, Some, Result, Ok, Err, refl, sym, ap, subst, ◌∙◌, arith}
+use Rattle.std.specs.Prelude.{OnOk, slice_get, replicate}
 use Rattle.std.specs.List.{flat_map}
 use Rattle.std.proofs.lemmas.List.{length-take-le}
 use Rattle.std.proofs.lemmas.Option.{slice_get_within}
 use Rattle.carrier_model.specs.FileTrees as trees
 use Rattle.carrier_model.specs.FileTrees.{FileTree, and_files, NO_CLASS}
-use Rattle.carrier_model.specs.Keys.{Name, name_cmp}
-use Rattle.carrier_model.specs.Tree.{Message, message, Attached, attachments_from, listed, names_in, names_in_props, names_below, names_at, names_of}
+use Rattle.carrier_model.specs.Keys.{Name}
+use Rattle.carrier_model.specs.Tree.{Message, Attached, attachments_from, names_in, names_in_props, names_below, names_at, names_of}
 use Rattle.carrier_model.specs.Values.{Prop}
 use Rattle.carrier_model.proofs.Messages.{taken_at}
 use Rattle.carrier_model.proofs.Orders.{name_exact}
 use Rattle.carrier_model.proofs.SortedElements.{all_elements}
-use Rattle.carrier_model.proofs.Trees.{listed-from}
 use Rattle.cfb_list.specs.Grown.{grown, storages_in}
 use Rattle.cfb_list.specs.Listed.{Child, Listed, storage, with_child}
 use Rattle.msg_model.specs.NameMap.{pairs_from}
 use Rattle.msg_model.specs.ReadBack.{HaveFewParts, BodyHasFewParts}
 use Rattle.msg_model.specs.StreamNames.{ATTACHMENT_NAME, RECIPIENT_NAME, numbered_name}
-use Rattle.msg_model.specs.WrittenMsg.{attachment_files, body_files, head_of, list_files, message_files, object_word, recipient_files}
-use Rattle.msg_model.proofs.WrittenMessages.{In, in_front, in_back}
+use Rattle.msg_model.specs.WrittenMsg.{attachment_files, list_files, recipient_files}
+use Rattle.msg_model.proofs.WrittenMessages.{in_front, in_back}
 use Rattle.msg_nameid.specs.Maps.{names_in as names_of_pairs}
 use Rattle.msg_storage.specs.Written.{Adds, Known, attachment_tree, inside_attachment, recipient_tree}
 use Rattle.msg_tree.specs.Keeping.{HaveStores, BodyHasStores}

@@ -1,11 +1,10 @@
 -- Names that are a prefix and digits, read unit by unit.
-use native.Mathlib.Numerals.{unary_clauses}
-use Rattle.std.proofs.Common.{◌≡◌, ◌⊎◌, inl, inr, ℕ, zero, suc, ◌+◌, ◌*◌, ◌-◌, ◌≤◌, ◌<◌, ◌^◌, Bool, true, false, ◌&&◌, List, [], ◌∷◌, ◌++◌, length, map, take, drop, get_or, Option, Some, None, refl, sym, ap, subst, ◌∙◌, take_all, add-one, arith}
-use Rattle.std.specs.Prelude.{cond, ◌||◌, nat_eq, nat_le, fold, slice_get, ◌==◌}
+
+use Rattle.std.proofs.Common.{◌≡◌, ℕ, zero, ◌+◌, ◌*◌, ◌-◌, ◌≤◌, ◌<◌, ◌^◌, Bool, true, false, ◌&&◌, List, [], ◌∷◌, ◌++◌, length, map, take, drop, get_or, Option, Some, None, refl, sym, ap, ◌∙◌, take_all, add-one, arith}
+use Rattle.std.specs.Prelude.{cond, ◌||◌, nat_le, slice_get, ◌==◌}
 use Rattle.std.specs.List.{list_all}
 use Rattle.std.specs.Char.{to_ascii_lowercase}
-use Rattle.std.specs.Cmp.Lexicographic.{pointwise}
-use Rattle.std.proofs.Math.Nat.{pow-le-pow_right}
+use Rattle.std.proofs.Math.Nat.{pow-le-pow_right, pow-succ'}
 use Rattle.std.proofs.lemmas.Bool.{and_parts, leb-true, le-leb, lt-leb, cond-true, cond-false, ne_eqb, eq-eqb}
 use Rattle.std.proofs.lemmas.List.{map-append, take-append-drop, drop-map, length-map, length-drop, get_or-map}
 use Rattle.std.proofs.lemmas.List.Folds.{list_all-append}
@@ -17,7 +16,7 @@ use Rattle.carrier_model.specs.Lookups.{same_name}
 use Rattle.carrier_model.proofs.Messages.{taken_at}
 use Rattle.carrier_model.proofs.Trees.{drop_at}
 use Rattle.msg_model.specs.MsgMessage.{is_hex, hex_number, number_in}
-use Rattle.msg_storage.specs.Numbered.{digit_of, digit_in, digits_of}
+use Rattle.msg_storage.specs.Numbered.{digit_of, digits_of}
 
 -- so many digits are read, and their number
 pub record DigitsRead (units : List ℕ) (k number : ℕ) : Type 0 where
@@ -33,7 +32,7 @@ pub digit_room : (units : List ℕ) (k number : ℕ) → DigitsRead units k numb
 digit_room units k number h lt =
     let some : zero < 16 = omega arith in
     let seven : k ≤ 7 = omega (arith, lt) in
-    let le : 16 ^ k ≤ 16 ^ 7 = pow-le-pow_right {16} some {k} {7} seven in
+    let le : 16 ^ k ≤ 16 ^ 7 = pow-le-pow_right {n = 16} some {i = k} {j = 7} seven in
     omega (arith, h.low, le)
 
 -- ---- one digit
@@ -99,7 +98,7 @@ module _ (units : List ℕ) (k number : ℕ) (h : DigitsRead units k number) (u 
       }
     where
       power : (n : ℕ) → 16 ^ (n + 1) ≡ 16 * 16 ^ n
-      power n = ap (λ m. 16 ^ m) (add-one n) ∙ simp unary_clauses (omega arith)
+      power n = ap (λ m. 16 ^ m) (add-one n) ∙ pow-succ' 16 n
 
   pub digit_stops : None ≡ digit_of u → digits_of units ≡ None
   digit_stops e =

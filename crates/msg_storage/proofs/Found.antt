@@ -1,9 +1,8 @@
 -- The children of a storage that have a number.
-use Rattle.std.proofs.Common.{◌≡◌, ℕ, ◌+◌, ◌<◌, List, [], ◌∷◌, ◌++◌, length, map, take, Option, Some, None, refl, sym, ap, ◌∙◌}
+use Rattle.std.proofs.Common.{◌≡◌, ℕ, zero, suc, ◌+◌, List, [], ◌∷◌, ◌++◌, take, Option, Some, None, refl, ap, ◌∙◌}
 use Rattle.std.specs.Prelude.{filter_map, option_to_list, slice_get}
 use Rattle.std.specs.Option.{option_map}
 use Rattle.std.specs.List.{cons_option}
-use Rattle.std.proofs.lemmas.List.{append-nil}
 use Rattle.std.proofs.lemmas.List.Elements.{filter_map-append}
 use Rattle.carrier_model.specs.Files.{Children, none, storage, stream, Files}
 use Rattle.carrier_model.specs.Lookups.{storage_at}
@@ -28,3 +27,10 @@ child_taken prefix cs k x at = ap (filter_map (numbered_child prefix)) (taken_at
     one : (o : Option (ℕ × Files)) → cons_option o [] ≡ option_to_list o
     one None = refl
     one (Some y) = refl
+
+-- no child is left behind the last
+pub all_taken : {A : Type 0} (xs : List A) (k : ℕ) → slice_get xs k ≡ None → take k xs ≡ xs
+all_taken [] zero h = refl
+all_taken [] (suc k) h = refl
+all_taken (x ∷ xs) zero h = absurd cc
+all_taken (x ∷ xs) (suc k) h = ap (λ l. x ∷ l) (all_taken xs k h)

@@ -5,6 +5,8 @@ mod Digits
 mod Found
 mod Messages
 mod Parts
+mod Rows
 mod Sorting
 mod Turned
 mod Unrolled
+mod WholeFiles

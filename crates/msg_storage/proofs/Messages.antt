@@ -1,20 +1,16 @@
 -- The parts of a message, one after another.
-use Rattle.std.proofs.Common.{◌≡◌, ℕ, zero, suc, List, ◌++◌, map, Option, Some, None, Bool, true, false, Result, Ok, Err, refl, sym, ap, ◌∙◌, append_assoc}
-use Rattle.std.specs.List.{flat_map}
+use Rattle.std.proofs.Common.{◌≡◌, ℕ, zero, suc, List, ◌++◌, Some, None, Result, Ok, Err, refl, sym, ap, ◌∙◌}
 use Rattle.carrier_model.specs.Files.{Files}
-use Rattle.carrier_model.specs.FileTrees as trees
 use Rattle.carrier_model.specs.Lookups.{storage_named}
 use Rattle.carrier_model.specs.Kinds.{ATTACHED_OBJECT}
-use Rattle.carrier_model.specs.Meanings.{Held, Meaning, Passed, held_message, held_store}
+use Rattle.carrier_model.specs.Meanings.{Held}
 use Rattle.carrier_model.specs.Outcomes.{◌>>=◌, mapped}
 use Rattle.carrier_model.specs.Reasons.{MISSING_STORAGE}
-use Rattle.carrier_model.specs.Stores.{store_in}
 use Rattle.carrier_model.specs.Trail.{Fault}
-use Rattle.carrier_model.specs.Tree.{message, nothing, Attached, attachments_from}
+use Rattle.carrier_model.specs.Tree.{message, nothing, attachments_from}
 use Rattle.carrier_model.specs.Turns.{each, found}
-use Rattle.carrier_model.specs.Values.{Prop}
 use Rattle.carrier_model.proofs.Turns.{mapped_ok}
-use Rattle.msg_model.specs.MsgMessage.{Carried, Inner, attachment_in, body_in, carried, held_by, held_in, is_message, list_in, meaning_of, message_in, message_with, numbered}
+use Rattle.msg_model.specs.MsgMessage.{Inner, attachment_in, body_in, carried, held_by, held_in, is_message, list_in, meaning_of, message_in, message_with, numbered}
 use Rattle.msg_model.specs.MsgProps.{Part, Section, attachment, recipient}
 use Rattle.msg_model.specs.NameMap.{Pair}
 use Rattle.msg_model.specs.StreamNames.{ATTACHMENT_NAME, RECIPIENT_NAME, value_name}

@@ -1,17 +1,17 @@
 -- The parts of a message, by what is known of the whole.
-use Rattle.std.proofs.Common.{◌≡◌, ℕ, ◌≤◌, ◌∷◌, ◌++◌, [], List, length, Bool, None, refl, sym, ap, subst, ◌∙◌, arith}
+use Rattle.std.proofs.Common.{◌≡◌, ℕ, ◌≤◌, ◌++◌, List, length, Bool, None, sym, ap, subst, ◌∙◌, arith}
 use Rattle.std.specs.List.{flat_map}
-use Rattle.carrier_model.specs.FileTrees.{FileTree, and_files}
+use Rattle.carrier_model.specs.FileTrees.{and_files}
 use Rattle.carrier_model.specs.Keys.{Name}
 use Rattle.carrier_model.specs.Tree as plain
 use Rattle.carrier_model.specs.Tree.{attachments_from, names_at, names_below, names_in, names_in_body, names_in_props}
 use Rattle.carrier_model.proofs.Trees.{listed-from}
-use Rattle.msg_model.specs.ReadBack.{BodyHasFewParts, HasFewParts, HaveFewParts, NamesAmong}
+use Rattle.msg_model.specs.ReadBack.{HasFewParts, HaveFewParts, NamesAmong}
 use Rattle.msg_model.specs.WrittenMsg.{attachment_files, head_of, list_files, message_files, recipient_files}
 use Rattle.msg_model.proofs.WrittenMessages.{among, below_known, in_back, in_front, own_known, recipients_known}
 use Rattle.msg_storage.specs.Written.{Known}
 use Rattle.msg_storage.proofs.Unrolled.{attached_out, tree_out}
-use Rattle.msg_tree.specs.Keeping.{BodyHasStores, HasStores, HaveStores}
+use Rattle.msg_tree.specs.Keeping.{HasStores, HaveStores}
 use Rattle.msg_tree.specs.Meaning.{attached_of, body_of, list_of, tree_of}
 use Rattle.msg_tree.specs.declared.messages.Attachment.{Attachment, out-Attachment}
 use Rattle.msg_tree.specs.declared.messages.Message.{Message, out-Message}
@@ -58,8 +58,8 @@ module _ {B : Type 0} (bytes_of : B → List ℕ) (m : Message B) where
   -- the files of its parts are its files
   pub files_told : (names : List Name) (top : Bool)
       → and_files (list_files names (head_of top (length (plain.recipients_of (tree_of bytes_of m))) (length (plain.attachments_of (tree_of bytes_of m)))) (plain.props_of (tree_of bytes_of m)) None)
-        (and_files (recipient_files names 0 (out-Message B m).recipients) (attachment_files names 0 (attachments_from (list_of bytes_of (out-Message B m).attachments))))
-        ≡ message_files names top (tree_of bytes_of m)
+      (and_files (recipient_files names 0 (out-Message B m).recipients) (attachment_files names 0 (attachments_from (list_of bytes_of (out-Message B m).attachments))))
+      ≡ message_files names top (tree_of bytes_of m)
   files_told names top =
       let t = tree_out bytes_of m in
       let own = λ (u : plain.Message). list_files names (head_of top (length (plain.recipients_of u)) (length (plain.attachments_of u))) (plain.props_of u) None in

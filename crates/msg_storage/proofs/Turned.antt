@@ -1,11 +1,11 @@
 -- Things that are read in turn, beside what they pass over.
-use Rattle.std.proofs.Common.{◌≡◌, ℕ, ◌+◌, ◌≤◌, List, [], ◌∷◌, ◌++◌, length, map, take, drop, Result, Ok, Err, Some, refl, sym, ap, subst, ◌∙◌, append_assoc, take_all, arith}
+use Rattle.std.proofs.Common.{◌≡◌, ℕ, ◌+◌, ◌≤◌, List, [], ◌∷◌, ◌++◌, length, map, take, drop, Result, Ok, Err, Some, refl, sym, ap, ◌∙◌, append_assoc, take_all}
 use Rattle.std.specs.Prelude.{slice_get}
 use Rattle.std.specs.List.{flat_map}
 use Rattle.std.proofs.Math.Seq.{drop-append_seam}
 use Rattle.std.proofs.lemmas.Grind.{flat_map-append}
 use Rattle.std.proofs.lemmas.List.{append-nil, map-append, take-append-drop}
-use Rattle.carrier_io.specs.Reads.{Fails, Gives}
+use Rattle.carrier_io.specs.Reads.{Fails}
 use Rattle.carrier_io.specs.Reasons.{fault_of}
 use Rattle.carrier_io.specs.declared.reasons.Stop.{Stop}
 use Rattle.carrier_io.specs.declared.reasons.Stop.TheVariants as stops
@@ -67,3 +67,8 @@ module _ {A B P : Type 0} (read : A → Result B Fault) (part : B → P) (over :
 
   pub progress_all : {W : Type 0} (whole : List B → W) (k : ℕ) (now : List Passed) (parts : List P) (p : Progress read part over xs k old now parts) → length xs ≤ k → mapped whole (each read xs) ≡ Ok (whole p.given)
   progress_all whole k now parts p le = ap (mapped whole) (ap (each read) (sym (take_all k xs le)) ∙ p.turns)
+
+-- what three readers pass over, one behind the other
+pub passed_thrice : (old a b c x y z : List Passed) → a ≡ old ++ x → b ≡ a ++ y → c ≡ b ++ z → c ≡ old ++ (x ++ (y ++ z))
+passed_thrice old a b c x y z p q r =
+    r ∙ (ap (λ l. l ++ z) (q ∙ ap (λ l. l ++ y) p) ∙ (append_assoc (old ++ x) y z ∙ append_assoc old x (y ++ z)))

@@ -1,10 +1,7 @@
 -- The meaning of one level, by the meanings of the levels below.
-use Rattle.std.proofs.Common.{◌≡◌, ◌∙◌, ap, ℕ, List}
-use Rattle.std.specs.declared.alloc.Global.{Global}
-use Rattle.std.specs.declared.boxed.Box.{Box}
+use Rattle.std.proofs.Common.{◌≡◌, ℕ, List}
 use Rattle.carrier_model.specs.Tree as plain
 use Rattle.msg_tree.specs.Meaning.{body_step, attached_step, list_step, message_step, tree_of, list_of, attached_of, body_of}
-use Rattle.msg_tree.specs.StoreMeaning.{store_of}
 use Rattle.msg_tree.specs.declared.messages.Attachment.{Attachment, out-Attachment, fold_out-Attachment}
 use Rattle.msg_tree.specs.declared.messages.Message.{Message, out-Message, fold_out-Message}
 

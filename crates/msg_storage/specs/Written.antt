@@ -1,5 +1,5 @@
 -- The storages of a message, one by one.
-use Rattle.std.specs.Prelude.{◌≡◌, ℕ, List, Contains, Option, None, replicate}
+use Rattle.std.specs.Prelude.{◌≡◌, ℕ, List, Contains, None, replicate}
 use Rattle.carrier_model.specs.FileTrees.{FileTree, storage, no_file, and_files, NO_CLASS}
 use Rattle.carrier_model.specs.Keys.{Name}
 use Rattle.carrier_model.specs.Tree.{Attached}

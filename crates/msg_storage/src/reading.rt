@@ -3,12 +3,15 @@ ghost use Rattle.std.specs.Prelude.{◌≡◌, Err};
 ghost use Rattle.carrier_io.specs.Reads.{Gives, Reads};
 ghost use Rattle.carrier_model.specs.Outcomes.{mapped};
 ghost use Rattle.carrier_model.specs.Meanings.{held_message};
+ghost use Rattle.carrier_model.specs.Tree as tree;
 ghost use Rattle.cfb_directory.specs.Found.{IsThere, storage_seen};
 ghost use Rattle.cfb_directory.specs.Shown.{files as files_seen};
+ghost use Rattle.cfb_sectors.specs.Seen.{bytes_of};
 ghost use Rattle.msg_model.specs.MsgMessage.{FilesMean, attachment_in, files_meaning, held_by, held_in, is_message, message_in};
 ghost use Rattle.msg_props.specs.Sections.{part_of};
 ghost use Rattle.msg_storage.specs.Beside.{GivesBeside, carried_beside, held_beside, meaning_beside, pieces_beside, rows_beside};
 ghost use Rattle.msg_storage.specs.Levels.{attachments_in, inner_at, recipients_in};
+ghost use Rattle.msg_tree.specs.Meaning.{attached_of, body_of, list_of, tree_of};
 ghost use Rattle.msg_tree.specs.Whole.{meaning_in};
 
 use crate::storages::storages_in;
@@ -19,7 +22,7 @@ use msg_nameid::NameMap;
 use msg_props::{Section, read_props};
 use msg_tree::{Accepted, Attachment, Attachments, Body, Message, Recipients, Tree};
 use ole_stores::read_store;
-use prop_values::Part;
+use prop_values::{Part, Props};
 use std::alloc::Global;
 
 /// How many levels of messages may lie in a message.
@@ -36,6 +39,31 @@ const OBJECT: &str = "__substg1.0_3701000D";
 
 /// The stream that makes a storage a message.
 const PROPERTIES: &str = "__properties_version1.0";
+
+/// A message of these parts.
+fn message_of<'a>(
+    props: Props<StreamView<'a>>,
+    recipients: Recipients<StreamView<'a>>,
+    attachments: Attachments<StreamView<'a>>,
+) -> Message<StreamView<'a>>
+    ensures { tree_of bytes_of result ≡ tree.message props.entry recipients.entry (tree.attachments_from (list_of bytes_of attachments.entry)) }
+{
+    Message {
+        props,
+        recipients,
+        attachments,
+    }
+}
+
+/// An attachment of these parts.
+fn attachment_of<'a>(
+    props: Props<StreamView<'a>>,
+    body: Body<StreamView<'a>>,
+) -> Attachment<StreamView<'a>>
+    ensures { attached_of bytes_of result ≡ (props.entry, body_of bytes_of body.entry) }
+{
+    Attachment { props, body }
+}
 
 /// The recipients of a message. What is passed over is added to `passed`. A fault is the first.
 fn read_recipients<'a>(
@@ -76,11 +104,7 @@ fn read_message<'a>(
     let list = read_props(alloc, files, at, part, names, passed)?;
     let recipients = read_recipients(alloc, files, at, names, passed)?;
     let attachments = read_attachments(alloc, files, at, names, levels, passed)?;
-    Ok(Message {
-        props: list.props,
-        recipients,
-        attachments,
-    })
+    Ok(message_of(list.props, recipients, attachments))
 }
 
 /// The attachments of a message.
@@ -124,12 +148,9 @@ fn read_attachment<'a>(
     match embedded {
         Some(place) => {
             let body = read_held(alloc, files, at, place, names, levels, passed)?;
-            Ok(Attachment { props, body })
+            Ok(attachment_of(props, body))
         }
-        None => Ok(Attachment {
-            props,
-            body: Body::Plain,
-        }),
+        None => Ok(attachment_of(props, Body::Plain)),
     }
 }
 
@@ -202,19 +223,25 @@ fn read_inner<'a>(
 
 /// The message that the files of a .msg mean, and what stands beside it, in reading order; or the first fault: of the name
 /// map, and then of the message, list by list. Values stay in the input. [MS-OXMSG 2.1 to 2.4]
-pub fn read_msg<'a>(
-    alloc: Global,
-    files: &Files<'a>,
-) -> Result<Accepted<StreamView<'a>>, Stop>
+pub fn read_msg<'a>(alloc: Global, files: &Files<'a>) -> Result<Accepted<StreamView<'a>>, Stop>
     ensures answer { Gives meaning_in result (files_meaning (files_seen files.now)) }
     ensures both { Reads meaning_in result (FilesMean (files_seen files.now)) (λ g. files_meaning (files_seen files.now) ≡ Err g) }
 {
     let names = NameMap::read(alloc, files)?;
     let mut passed = PassedList::new(alloc);
     let root = files.root();
-    let message = read_message(alloc, files, root, Part::Top, &names, GREATEST_LEVEL, &mut passed)?;
+    let message = read_message(
+        alloc,
+        files,
+        root,
+        Part::Top,
+        &names,
+        GREATEST_LEVEL,
+        &mut passed,
+    )?;
     match Tree::new(message) {
         Ok(tree) => Ok(Accepted { tree, passed }),
+        // No opened file comes here: its names are short and differ in each storage, so each store is one.
         Err(_) => Err(Stop::NoMemory),
     }
 }

@@ -2,7 +2,6 @@ use Rattle.std.proofs.Common.{map}
 use Rattle.cfb_directory.specs.Found.{storage_seen}
 use Rattle.msg_model.specs.MsgMessage.{list_in}
 use Rattle.msg_model.specs.MsgProps.{recipient}
-use Rattle.msg_storage.specs.Numbered.{numbered_seen}
 use Rattle.msg_storage.proofs.Turned.{Progress}
 use Rattle.msg_storage.proofs.reading.read_recipients.Given as goal
 

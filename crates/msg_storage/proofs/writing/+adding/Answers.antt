@@ -1,4 +1,4 @@
-use Rattle.std.proofs.Common.{◌≡◌, ◌<◌, ◌∙◌, None, ap, arith, length, subst, sym, take, take_all}
+use Rattle.std.proofs.Common.{◌≡◌, None, ap, arith, length, subst, take, take_all}
 use Rattle.carrier_model.specs.FileTrees.{FileTree, and_files}
 use Rattle.carrier_model.specs.Tree as plain
 use Rattle.carrier_model.specs.Tree.{Attached, attachments_from, depth_of_body}
@@ -47,11 +47,22 @@ add_message-add_attachment-requires g t c κs within =
     let listed = adds_within count c.args.files.now c.add_list.new.files c.args.at own c.in_ok-add_list.ensures c.requires.at in
     let rows = adds_within count c.add_list.new.files c.add_recipients.new.files c.args.at theirs c.in_ok-add_recipients.ensures listed in
     let inside = adds_within count c.add_recipients.new.files c.loop-k.files c.args.at (attachment_files names 0 (attachments_from (take k xs))) c.loop-k.invariant rows in
-    let le = depth_at_le xs k x c.get.ensures in
-    (omega (arith, le, depth_below g.B.Blob.bytes m), (within, (inside, (c.requires.assigned, (
-      attachment_known names xs k x c.get.ensures (below_named g.B.Blob.bytes m names c.requires.known),
-      (attachment_few xs k x c.get.ensures (few_below g.B.Blob.bytes m c.requires.parts), attachment_stores xs k x c.get.ensures (stores_below g.B.Blob.bytes m c.requires.stores))
-    )))))
+    let le = depth_at_le xs k x c.get.ensures in (
+      omega (arith, le, depth_below g.B.Blob.bytes m),
+      (
+        within,
+        (
+          inside,
+          (
+            c.requires.assigned,
+            (
+              attachment_known names xs k x c.get.ensures (below_named g.B.Blob.bytes m names c.requires.known),
+              (attachment_few xs k x c.get.ensures (few_below g.B.Blob.bytes m c.requires.parts), attachment_stores xs k x c.get.ensures (stores_below g.B.Blob.bytes m c.requires.stores)),
+            ),
+          ),
+        ),
+      ),
+    )
 
 pub add_message-loop-k-preserved : goal.add_message-loop-k-preserved
 add_message-loop-k-preserved g t c =

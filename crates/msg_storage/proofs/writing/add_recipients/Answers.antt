@@ -1,4 +1,4 @@
-use Rattle.std.proofs.Common.{◌+◌, take, subst}
+use Rattle.std.proofs.Common.{take, subst}
 use Rattle.carrier_model.specs.FileTrees.{FileTree}
 use Rattle.msg_model.specs.WrittenMsg.{recipient_files}
 use Rattle.msg_nameid.specs.Maps.{names_in}
