@@ -13,6 +13,9 @@ use Rattle.job_model.specs.Commands.{Job, to_msg, to_msg4, to_tnef, wrap, unwrap
 use Rattle.job_model.specs.Targets.{IsResult, passed_limit}
 use Rattle.mail_model.specs.Envelope.{Envelope, EnvelopeFault}
 use Rattle.tnef_model.specs.TnefMessage.{TnefCarrier, TnefFault}
+use Rattle.cfb_writer.specs.declared.version.Version.{Version}
+use Rattle.cfb_writer.specs.declared.version.Version.TheVariants.{Three, Four}
+use Rattle.translate_core.specs.Jobs.{file_job}
 use Rattle.translate_core.specs.Ends.{Puts, Tells, end_of_stop}
 use Rattle.translate_core.specs.declared.ends.End.{End}
 use Rattle.translate_core.specs.declared.ends.End.TheVariants.{Refused, Unfit, WriteFault, NoMemory}
@@ -61,3 +64,11 @@ payload_stopped view exact b p old new stops.NoMemory few e r = tt
 
 pub in_mail : (b p : List ℕ) (m : Meaning) → length b ≤ MOST_BYTES → Envelope b p → TnefCarrier p m.message m.passed → Accepts unwrap b m
 in_mail b p m few e c = (few, record { payload = p; carried = e; means = c })
+
+pub takes_file : (v : Version) (b : List ℕ) (m : Meaning) → length b ≤ MOST_BYTES → CarriesMessage b m → Accepts (file_job v) b m
+takes_file Three b m few c = (few, c)
+takes_file Four b m few c = (few, c)
+
+pub file_fault : (v : Version) (b : List ℕ) → length b ≤ MOST_BYTES → (g : Fault) → MessageFault b g → FaultOf (file_job v) b g
+file_fault Three b few g f = inr (few, f)
+file_fault Four b few g f = inr (few, f)

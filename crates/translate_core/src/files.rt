@@ -1,5 +1,5 @@
 //! Messages written as .msg files.
-ghost use Rattle.std.specs.Prelude.{◌≡◌, ℕ, List, IfOk, IfErr};
+ghost use Rattle.std.specs.Prelude.{◌≡◌, ◌≤◌, ℕ, List, None, length, IfOk, IfErr};
 ghost use Rattle.cfb_writer.specs.Versions.{sector_of};
 ghost use Rattle.job_model.specs.Commands.{to_msg};
 ghost use Rattle.msg_model.specs.WrittenMsg.{msg_in, msg_of};
@@ -23,6 +23,7 @@ fn msg_plan<'t, B: Blob>(
     tree: &'t Tree<B>,
 ) -> Result<Plan<'t, B>, MsgEnd>
     ensures ok { IfOk result (λ p. p ≡ msg_in (sector_of version) (plain_of tree.entry.now)) }
+    ensures short { IfOk result (λ p. length p ≤ MOST_BYTES) }
     ensures fits { IfOk result (λ p. file_limit (sector_of version) (plain_of tree.entry.now) ≡ None) }
     ensures end { IfErr result (FileEnds (sector_of version) (plain_of tree.entry.now)) }
 {
