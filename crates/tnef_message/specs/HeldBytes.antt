@@ -9,18 +9,20 @@ use Rattle.tnef_message.specs.declared.held.Held.TheVariants.{Slice, View}
 
 abbrev pub held_bytes : Held → List ℕ
 held_bytes (Slice s) = s.now
-held_bytes (View v) = bytes_of v
+held_bytes (View b) = bytes_of b.value
 
 -- a slice is one piece, and a view has one for each sector or mini sector
 abbrev pub held_count : Held → ℕ
 held_count (Slice s) = 1
-held_count (View v) = div_ceil v.len v.each
+held_count (View b) = div_ceil b.value.len b.value.each
 
 abbrev pub held_part : Held → ℕ → List ℕ
 held_part (Slice s) k = s.now
-held_part (View v) k = piece_of v k
+held_part (View b) k = piece_of b.value k
 
 -- the pieces, one after another, are the bytes
 pub held_joins : (x : Held) → joined (held_part x) (held_count x) ≡ held_bytes x
 held_joins (Slice s) = refl
-held_joins (View v) = pieces_join v.file.now v.each v.starts.items v.len v.cut v.within (joined (piece_of v)) refl (λ _. refl)
+held_joins (View b) =
+    let v = b.value in
+    pieces_join v.file.now v.each v.starts.items v.len v.cut v.within (joined (piece_of v)) refl (λ _. refl)

@@ -1,6 +1,8 @@
 //! What the values of a message that was read are held in.
-use carrier_io::{Blob, Holds};
+use carrier_io::{Blob, Holds, NoMemory};
 use cfb_sectors::StreamView;
+use msg_tree::Keeps;
+use std::alloc::Global;
 
 /// Bytes of a TNEF stream that was read: of the stream itself, or of a stream of a compound file that lies in it. They
 /// stay in the input.
@@ -9,7 +11,7 @@ pub enum Held<'a> {
     /// Bytes of the stream.
     Slice(&'a [u8]),
     /// Bytes of a compound file's stream.
-    View(StreamView<'a>),
+    View(Box<StreamView<'a>>),
 }
 
 impl<'a> Blob for Held<'a> {
@@ -51,8 +53,8 @@ impl<'a> Holds<&'a [u8]> for Held<'a> {
     }
 }
 
-impl<'a> Holds<StreamView<'a>> for Held<'a> {
-    fn holding(view: StreamView<'a>) -> Held<'a> {
-        Held::View(view)
+impl<'a> Keeps<StreamView<'a>> for Held<'a> {
+    fn keeping(alloc: Global, view: StreamView<'a>) -> Result<Held<'a>, NoMemory> {
+        Ok(Held::View(Box::new(alloc, view)?))
     }
 }

@@ -7,13 +7,13 @@ ghost use Rattle.carrier_io.specs.Summed.{Sums};
 ghost use Rattle.tnef_props.specs.Named.{HasKey, HasNames, between};
 
 use crate::writing_keys::append_key;
-use crate::writing_values::append_value;
+use crate::writing_values::{append_unnamed, append_value};
 use carrier_io::{Blob, Failed, Sink, SureSink};
-use prop_names::NameSet;
+use prop_names::{Key, NameSet};
 use prop_values::{Prop, Props};
 
 /// Appends a property: its key and its value.
-fn append_prop<B: Blob, W: Sink>(
+fn append_keyed<B: Blob, W: Sink>(
     sink: &mut W,
     names: &NameSet,
     prop: &Prop<B>,
@@ -25,6 +25,22 @@ fn append_prop<B: Blob, W: Sink>(
     let key = append_key(sink, names, &prop.key, prop.value.kind().number())?;
     let value = append_value(sink, &prop.value)?;
     Ok(key.wrapping_add(value))
+}
+
+/// Appends a property. A tag and a number go in one piece.
+fn append_prop<B: Blob, W: Sink>(
+    sink: &mut W,
+    names: &NameSet,
+    prop: &Prop<B>,
+) -> Result<u16, Failed>
+    requires known { HasKey names.now prop.now.key }
+    requires few { length names.now ≤ 32000 }
+    ensures { Sums (W.held sink.old) (W.held sink.new) (W.faults sink.old) (W.faults sink.new) result (canon.prop_bytes names.now prop.now) }
+{
+    match &prop.key {
+        Key::Id(id) => append_unnamed(sink, *id, &prop.value),
+        Key::Named(_) => append_keyed(sink, names, prop),
+    }
 }
 
 /// Appends the properties from a place up to another, without that one, each with a name's id by its place among the

@@ -28,7 +28,7 @@ fn id_of(names: &NameSet, name: &Name) -> u16
 }
 
 /// Appends a tag: the number of a kind, and an id.
-fn append_tag<W: Sink>(sink: &mut W, id: u16, kind: u16) -> Result<u16, Failed>
+pub fn append_tag<W: Sink>(sink: &mut W, id: u16, kind: u16) -> Result<u16, Failed>
     ensures { Sums (W.held sink.old) (W.held sink.new) (W.faults sink.old) (W.faults sink.new) result (canon.tag_bytes id kind) }
 {
     let kind = le16(kind);

@@ -2,13 +2,15 @@
 ghost use Rattle.std.specs.Prelude.{◌≡◌, ◌+◌, ◌-◌, ◌*◌, ◌^◌, ◌<◌, ◌≤◌, ◌++◌, ℕ, All, length, replicate, flat_map};
 ghost use Rattle.tnef_model.specs.TnefCanonical as canon;
 ghost use Rattle.carrier_model.specs.Values as plain;
+ghost use Rattle.carrier_model.specs.Bytes.{le32 as model_le32};
 ghost use Rattle.prop_values.specs.Kinds.{kind_number};
 ghost use Rattle.prop_values.specs.Meaning.{value_of};
 ghost use Rattle.carrier_io.specs.Summed.{Sums};
 ghost use Rattle.tnef_props.specs.Written.{HasWidth, Fits, number_field, text_field, count_field, counted, content_field};
 
+use crate::writing_keys::append_tag;
 use carrier_io::{
-    Blob, Failed, Numbers, Sink, append, append_blob, append_zeros, le32, le64, pad4,
+    Blob, Failed, Numbers, Sink, append, append_blob, append_zeros, le16, le32, le64, pad4,
 };
 use prop_values::{Guids, Kind, Parts, Shape, Value};
 
@@ -56,6 +58,18 @@ fn append_text<B: Blob, W: Sink>(sink: &mut W, null: usize, text: &B) -> Result<
     let size = append(sink, &le32((text.len() + null) as u32))?;
     let bytes = append_padded(sink, null, text)?;
     Ok(size.wrapping_add(bytes))
+}
+
+/// Appends a text with a count of one before it.
+fn append_one_text<B: Blob, W: Sink>(sink: &mut W, null: usize, text: &B) -> Result<u16, Failed>
+    requires null { null ≤ 2 }
+    requires short { length (B.bytes text.now) < 0x4000_0000 }
+    ensures { Sums (W.held sink.old) (W.held sink.new) (W.faults sink.old) (W.faults sink.new) result (model_le32 1 ++ text_field null (B.bytes text.now)) }
+{
+    let size = le32((text.len() + null) as u32);
+    let head = append(sink, &[1, 0, 0, 0, size[0], size[1], size[2], size[3]])?;
+    let bytes = append_padded(sink, null, text)?;
+    Ok(head.wrapping_add(bytes))
 }
 
 /// Appends numbers, each in eight or in four bytes.
@@ -134,12 +148,77 @@ fn append_content<B: Blob, W: Sink>(sink: &mut W, value: &Value<B>) -> Result<u1
     }
 }
 
-/// Appends a value.
-pub fn append_value<B: Blob, W: Sink>(sink: &mut W, value: &Value<B>) -> Result<u16, Failed>
+/// Appends the count of a value's elements, where it says one, and the elements.
+fn append_counted<B: Blob, W: Sink>(sink: &mut W, value: &Value<B>) -> Result<u16, Failed>
     requires { plain.IsValue (value_of B.bytes value.now) }
     ensures { Sums (W.held sink.old) (W.held sink.new) (W.faults sink.old) (W.faults sink.new) result (canon.value_bytes (value_of B.bytes value.now)) }
 {
     let count = append_count(sink, value)?;
     let content = append_content(sink, value)?;
     Ok(count.wrapping_add(content))
+}
+
+/// Appends a value.
+pub fn append_value<B: Blob, W: Sink>(sink: &mut W, value: &Value<B>) -> Result<u16, Failed>
+    requires { plain.IsValue (value_of B.bytes value.now) }
+    ensures { Sums (W.held sink.old) (W.held sink.new) (W.faults sink.old) (W.faults sink.new) result (canon.value_bytes (value_of B.bytes value.now)) }
+{
+    match value {
+        Value::Bytes { kind, bytes } => append_one_text(sink, kind.null_size(), bytes),
+        _ => append_counted(sink, value),
+    }
+}
+
+/// Appends a number in eight or in four bytes, with the tag before it, as one piece.
+fn append_tagged_number<W: Sink>(
+    sink: &mut W,
+    id: u16,
+    kind: u16,
+    wide: bool,
+    bits: u64,
+) -> Result<u16, Failed>
+    requires { Fits wide bits }
+    ensures { Sums (W.held sink.old) (W.held sink.new) (W.faults sink.old) (W.faults sink.new) result (canon.tag_bytes id kind ++ number_field wide bits) }
+{
+    let kind = le16(kind);
+    let id = le16(id);
+    if wide {
+        let number = le64(bits);
+        append(
+            sink,
+            &[
+                kind[0], kind[1], id[0], id[1], number[0], number[1], number[2], number[3],
+                number[4], number[5], number[6], number[7],
+            ],
+        )
+    } else {
+        let number = le32(bits as u32);
+        append(
+            sink,
+            &[
+                kind[0], kind[1], id[0], id[1], number[0], number[1], number[2], number[3],
+            ],
+        )
+    }
+}
+
+/// Appends a tag with an id, and a value.
+pub fn append_unnamed<B: Blob, W: Sink>(
+    sink: &mut W,
+    id: u16,
+    value: &Value<B>,
+) -> Result<u16, Failed>
+    requires { plain.IsValue (value_of B.bytes value.now) }
+    ensures { Sums (W.held sink.old) (W.held sink.new) (W.faults sink.old) (W.faults sink.new) result (canon.tag_bytes id (plain.kind_of (value_of B.bytes value.now)) ++ canon.value_bytes (value_of B.bytes value.now)) }
+{
+    match value {
+        Value::Number { kind, bits } => {
+            append_tagged_number(sink, id, kind.number(), is_wide(*kind), *bits)
+        }
+        _ => {
+            let tag = append_tag(sink, id, value.kind().number())?;
+            let rest = append_value(sink, value)?;
+            Ok(tag.wrapping_add(rest))
+        }
+    }
 }

@@ -3,7 +3,7 @@ use Rattle.prop_values.specs.Meaning.{value_of}
 use Rattle.tnef_props.specs.Written.{content_field}
 use Rattle.carrier_io.proofs.Summed.{sums_both, sums_first, sums_second}
 use Rattle.tnef_props.proofs.WrittenValues.{value_parts}
-use Rattle.tnef_props.proofs.writing_values.append_value.Goals as goal
+use Rattle.tnef_props.proofs.writing_values.append_counted.Goals as goal
 
 pub returns-in_err-count : goal.returns-in_err-count
 returns-in_err-count g c =

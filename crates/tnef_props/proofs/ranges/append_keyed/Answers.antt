@@ -2,7 +2,7 @@ use Rattle.std.proofs.Common.{refl}
 use Rattle.tnef_model.specs.TnefCanonical.{value_bytes}
 use Rattle.prop_values.specs.Meaning.{value_of}
 use Rattle.carrier_io.proofs.Summed.{sums_both, sums_first, sums_second}
-use Rattle.tnef_props.proofs.ranges.append_prop.Goals as goal
+use Rattle.tnef_props.proofs.ranges.append_keyed.Goals as goal
 
 pub returns-in_err-key : goal.returns-in_err-key
 returns-in_err-key g c =

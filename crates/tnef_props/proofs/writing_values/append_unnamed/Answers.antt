@@ -1,0 +1,14 @@
+use Rattle.tnef_model.specs.TnefCanonical.{value_bytes}
+use Rattle.prop_values.specs.Meaning.{value_of}
+use Rattle.carrier_io.proofs.Summed.{sums_first, sums_second}
+use Rattle.tnef_props.proofs.writing_values.append_unnamed.Goals as goal
+
+pub returns-in_err-tag-in_default : goal.returns-in_err-tag-in_default
+returns-in_err-tag-in_default g c =
+    let w = rw (c.number-in_default.ensures, c.kind.ensures) at c.in_err-tag-in_default.ensures in
+    sums_first (value_bytes (value_of g.B.Blob.bytes c.args.value.now)) c.from_residual.ensures.0 w
+
+pub returns-in_err-rest-in_default : goal.returns-in_err-rest-in_default
+returns-in_err-rest-in_default g c =
+    let w = rw (c.number-in_default.ensures, c.kind.ensures) at c.in_ok-tag-in_default.ensures in
+    sums_second c.from_residual-in_err-rest-in_default.ensures.0 w c.in_err-rest-in_default.ensures
