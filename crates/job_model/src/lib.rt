@@ -6,7 +6,8 @@ mod job_laws;
 mod text_rows;
 
 pub use job_laws::{
-    files_within_the_limits_carry_their_message, jobs_are_exact, results_carry_their_message, trees_within_the_limits_are_carried,
+    files_within_the_limits_carry_their_message, jobs_are_exact, results_carry_their_message,
+    trees_within_the_limits_are_carried,
 };
 pub use text_rows::{
     commands_by_their_words, lines_of_ends, texts_of_one_property, the_first_sample,
