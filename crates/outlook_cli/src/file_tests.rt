@@ -16,7 +16,10 @@ fn file_of(rt: &HostRuntime, word: &str, stream: &[u8]) -> Result<Vec<u8>, Fail>
 
 /// A stream with a property 1013 of so many zeros.
 fn with_binary(rt: &HostRuntime, size: u16) -> Result<Vec<u8>, Fail> {
-    let mut list = Vec::from_slice(rt.alloc(), &[1, 0, 0, 0, 0x02, 0x01, 0x13, 0x10, 1, 0, 0, 0])?;
+    let mut list = Vec::from_slice(
+        rt.alloc(),
+        &[1, 0, 0, 0, 0x02, 0x01, 0x13, 0x10, 1, 0, 0, 0],
+    )?;
     list.extend_from_slice(&le32(u32::from(size)))?;
     for _ in 0..4096 {
         list.push(0)?;

@@ -7,10 +7,12 @@ use std::test::*;
 const STREAM: [u8; 6] = [0x78, 0x9f, 0x3e, 0x22, 0x01, 0x00];
 
 /// The mail that carries it.
-const MAIL: [u8; 178] = *b"MIME-Version: 1.0\r\nContent-Type: application/ms-tnef; name=\"winmail.dat\"\r\nContent-Transfer-Encoding: base64\r\nContent-Disposition: attachment; filename=\"winmail.dat\"\r\n\r\neJ8+IgEA\r\n";
+const MAIL: [u8; 178] =
+    *b"MIME-Version: 1.0\r\nContent-Type: application/ms-tnef; name=\"winmail.dat\"\r\nContent-Transfer-Encoding: base64\r\nContent-Disposition: attachment; filename=\"winmail.dat\"\r\n\r\neJ8+IgEA\r\n";
 
 /// A mail that carries it in the second of two parts, without its last line.
-const MIXED: &[u8] = b"Content-Type: multipart/mixed; boundary=\"b1\"\n\n--b1\nContent-Type: text/plain\n\nhello\n--b1\nContent-Type: application/ms-tnef; name=\"winmail.dat\"\nContent-Transfer-Encoding: base64\n\neJ8+IgEA\n";
+const MIXED: &[u8] =
+    b"Content-Type: multipart/mixed; boundary=\"b1\"\n\n--b1\nContent-Type: text/plain\n\nhello\n--b1\nContent-Type: application/ms-tnef; name=\"winmail.dat\"\nContent-Transfer-Encoding: base64\n\neJ8+IgEA\n";
 
 #[test]
 fn streams_go_into_mails(rt: HostRuntime) -> Result<(), Fail> {
