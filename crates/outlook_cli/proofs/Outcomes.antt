@@ -1,5 +1,5 @@
 -- The three answers that there are for a job.
-use Rattle.std.proofs.Common.{◌≡◌, ℕ, ◌<◌, List, length, Option, Some, None, Result, Ok, Err, refl, sym, ap, inl}
+use Rattle.std.proofs.Common.{◌≡◌, ℕ, ◌<◌, List, length, Option, Some, None, refl, sym, ap, subst, inl}
 use Rattle.std.specs.Prelude.{IfSome}
 use Rattle.carrier_io.specs.Reads.{FaultOnly}
 use Rattle.carrier_io.proofs.Sides.{reads_fault}
@@ -13,21 +13,7 @@ use Rattle.job_model.specs.Commands.{Job}
 use Rattle.job_model.specs.Targets.{passed_limit}
 use Rattle.outlook_cli.specs.declared.status.Status.{Status}
 use Rattle.outlook_cli.specs.declared.status.Status.TheVariants.{Done, Refused, Usage, Unfit, ReadFault, WriteFault, NoMemory}
-use Rattle.outlook_cli.specs.Outcome.{Tells, IsDone, IsUnfit, IsRefused, IsAnswered, status_seen}
-use Rattle.translate_core.specs.Ends as core
-use Rattle.translate_core.specs.declared.ends.End.{End}
-use Rattle.translate_core.specs.declared.ends.End.TheVariants as ends
-
--- what a translation tells is told by its status
-pub told : (job : Job) (bytes : List ℕ) (old new : Option (List ℕ)) (r : Result (Unit {0}) End) → core.Tells job bytes old new r → Tells job bytes old new (status_seen r)
-told job bytes old new (Ok u) t = t
-told job bytes old new (Err (ends.Refused g)) t = t
-told job bytes old new (Err (ends.Unfit limit)) t = t
-told job bytes old new (Err ends.WriteFault) t = t
-told job bytes old new (Err ends.NoMemory) t = t
-
-pub too_long : (job : Job) (bytes : List ℕ) → IsExact (Accepts job bytes) (FaultOf job bytes) → MOST_BYTES < length bytes → FaultOnly (Accepts job bytes) (FaultOf job bytes) (INPUT_TOO_LONG, MOST_BYTES)
-too_long job bytes exact long = reads_fault (Accepts job bytes) (FaultOf job bytes) (INPUT_TOO_LONG, MOST_BYTES) exact.single exact.apart (inl (long, refl))
+use Rattle.outlook_cli.specs.Outcome.{Tells, IsDone, IsUnfit, IsRefused, IsAnswered}
 
 -- ---- the answers that there are
 
@@ -58,6 +44,12 @@ is_refused job bytes old new ReadFault t g f = tt
 is_refused job bytes old new WriteFault t g f = t.accepted.faultless g f
 is_refused job bytes old new NoMemory t g f = tt
 
-pub answered : (job : Job) (left old new : Option (List ℕ)) (s : Status) → IfSome left (λ bytes. Tells job bytes old new s) → IfSome left (λ bytes. IsAnswered job bytes s)
+answered : (job : Job) (left old new : Option (List ℕ)) (s : Status) → IfSome left (λ bytes. Tells job bytes old new s) → IfSome left (λ bytes. IsAnswered job bytes s)
 answered job None old new s t = tt
 answered job (Some bytes) old new s t = record { done = is_done job bytes old new s t; unfit = is_unfit job bytes old new s t; refused = is_refused job bytes old new s t }
+
+-- the same of the job that was asked for
+pub asked_and_answered : (job asked : Job) (r : Option Job) (left old new : Option (List ℕ)) (s : Status) → Some job ≡ r → r ≡ Some asked → IfSome left (λ bytes. Tells job bytes old new s) → IfSome left (λ bytes. IsAnswered asked bytes s)
+asked_and_answered job asked r left old new s e f t =
+    let same : job ≡ asked = cc in
+    subst (λ (j : Job). IfSome left (λ bytes. IsAnswered j bytes s)) same (answered job left old new s t)

@@ -1,5 +1,5 @@
 -- What a status says.
-use Rattle.std.specs.Prelude.{◌≡◌, ℕ, List, Option, Some, None, Result, Ok, Err}
+use Rattle.std.specs.Prelude.{◌≡◌, ℕ, List, Option, Some, None}
 use Rattle.carrier_io.specs.Reads.{FaultOnly}
 use Rattle.carrier_io.specs.Reasons.{fault_of}
 use Rattle.carrier_model.specs.Limits as limits
@@ -11,16 +11,6 @@ use Rattle.msg_tree.specs.Limiting.{limit_of}
 use Rattle.outlook_cli.specs.declared.status.Status.{Status}
 use Rattle.outlook_cli.specs.declared.status.Status.TheVariants.{Done, Refused, Usage, Unfit, ReadFault, WriteFault, NoMemory}
 use Rattle.translate_core.specs.Ends.{Translated, TooMuch, Broken}
-use Rattle.translate_core.specs.declared.ends.End.{End}
-use Rattle.translate_core.specs.declared.ends.End.TheVariants as ends
-
--- the status of a translation
-abbrev pub status_seen : Result (Unit {0}) End → Status
-status_seen (Ok u) = Done
-status_seen (Err (ends.Refused g)) = Refused g
-status_seen (Err (ends.Unfit limit)) = Unfit limit
-status_seen (Err ends.WriteFault) = WriteFault
-status_seen (Err ends.NoMemory) = NoMemory
 
 -- Of a job and the bytes that the input held, and of what the output held before and holds after.
 abbrev pub Tells : Job → List ℕ → Option (List ℕ) → Option (List ℕ) → Status → Type 0

@@ -1,4 +1,4 @@
-ghost use Rattle.std.specs.Prelude.{◌≡◌, ◌↔◌, ◌+◌, None, Some, IfSome};
+ghost use Rattle.std.specs.Prelude.{◌≡◌, ◌↔◌, ◌≤◌, ◌+◌, None, Some, IfSome, length};
 ghost use Rattle.std.specs.Io.KnownBytes.{IsAtEnd};
 ghost use Rattle.carrier_io.specs.Causes.{Rose};
 ghost use Rattle.carrier_io.specs.Known.{Takes};
@@ -6,12 +6,12 @@ ghost use Rattle.carrier_model.specs.Bytes.{MOST_BYTES};
 ghost use Rattle.job_model.specs.Commands as plain;
 ghost use Rattle.outlook_cli.specs.Words.{asked, texts};
 ghost use Rattle.outlook_cli.specs.Report.{Reports, line_of};
-ghost use Rattle.outlook_cli.specs.Outcome.{IsAnswered, Tells, WritesNothing, status_seen};
+ghost use Rattle.outlook_cli.specs.Outcome.{IsAnswered, Tells, WritesNothing};
 ghost use Rattle.translate_core.specs.Jobs.{job_seen};
 
 use crate::report::write_report;
 use crate::status::Status;
-use crate::words::{Command, job_of};
+use crate::words::job_of;
 use carrier_io::{Fault, ReadEnd, Reason, Sink, Source, read_all};
 use std::alloc::Global;
 use translate_core::{End, Job, inputs_are_exact, translate};
@@ -19,11 +19,17 @@ use translate_core::{End, Job, inputs_are_exact, translate};
 /// The most bytes of an input.
 const LIMIT: usize = 268_435_456;
 
-/// The status of a translation.
-fn status_of(end: Result<(), End>) -> Status
-    ensures { result ≡ status_seen end }
+/// Translates bytes in hand.
+fn translate_bytes<O: Sink>(alloc: Global, job: &Job, bytes: &[u8], output: &mut O) -> Status
+    requires { length bytes.now ≤ MOST_BYTES }
+    ensures told { Tells (job_seen job.now) bytes.now (O.held output.old) (O.held output.new) result }
+    ensures nothing { WritesNothing result output.old output.new }
+    ensures later { O.faults output.old ≤ O.faults output.new }
+    ensures fault { result ≡ Status.WriteFault → Rose (O.faults output.old) (O.faults output.new) }
+    ensures no_usage { result ≡ Status.Usage → ⊥ }
+    ensures no_read_fault { result ≡ Status.ReadFault → ⊥ }
 {
-    match end {
+    match translate(alloc, job, bytes, output) {
         Ok(()) => Status::Done,
         Err(End::Refused(fault)) => Status::Refused(fault),
         Err(End::Unfit(limit)) => Status::Unfit(limit),
@@ -49,7 +55,7 @@ fn translate_input<I: Source, O: Sink>(
 {
     inputs_are_exact();
     match read_all(alloc, input, LIMIT) {
-        Ok(bytes) => status_of(translate(alloc, job, &bytes, output)),
+        Ok(bytes) => translate_bytes(alloc, job, &bytes, output),
         Err(ReadEnd::ReadFault) => Status::ReadFault,
         Err(ReadEnd::NoMemory) => Status::NoMemory,
         Err(ReadEnd::TooLong) => Status::Refused(Fault {
@@ -78,7 +84,7 @@ fn answer<I: Source, O: Sink>(
 {
     match job_of(words) {
         None => Status::Usage,
-        Some(Command::Translate(job)) => translate_input(alloc, &job, input, output),
+        Some(job) => translate_input(alloc, &job, input, output),
     }
 }
 

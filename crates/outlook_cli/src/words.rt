@@ -2,49 +2,44 @@ ghost use Rattle.std.specs.Prelude.{◌≡◌, IfOk, drop};
 ghost use Rattle.std.specs.Option.{option_map};
 ghost use Rattle.std.specs.Vec.Iter.{into_iter_items};
 ghost use Rattle.job_model.specs.Commands.{command_among, words_of_one};
-ghost use Rattle.outlook_cli.specs.Words.{asked, job_in, texts, translation};
+ghost use Rattle.outlook_cli.specs.Words.{asked, texts, translation};
+ghost use Rattle.translate_core.specs.Jobs.{job_seen};
 
 use std::alloc::{AllocError, Global};
 use std::env;
 use translate_core::Job;
 
-/// A command.
-#[derive(Clone, Copy, Debug, PartialEq, Eq)]
-pub enum Command {
-    Translate(Job),
-}
-
-/// The command of one word.
-fn command_named(word: &str) -> Option<Command>
-    ensures { option_map job_in result ≡ translation (command_among words_of_one word.now) }
+/// The translation of one word; the other commands are not built.
+fn job_named(word: &str) -> Option<Job>
+    ensures { option_map job_seen result ≡ translation (command_among words_of_one word.now) }
 {
     if "show" == word || "check" == word {
         return None;
     }
     if "to-msg" == word {
-        return Some(Command::Translate(Job::ToMsg));
+        return Some(Job::ToMsg);
     }
     if "to-msg4" == word {
-        return Some(Command::Translate(Job::ToMsg4));
+        return Some(Job::ToMsg4);
     }
     if "to-tnef" == word {
-        return Some(Command::Translate(Job::ToTnef));
+        return Some(Job::ToTnef);
     }
     if "wrap" == word {
-        return Some(Command::Translate(Job::Wrap));
+        return Some(Job::Wrap);
     }
     if "unwrap" == word {
-        return Some(Command::Translate(Job::Unwrap));
+        return Some(Job::Unwrap);
     }
     None
 }
 
-/// The command that the words say.
-pub fn job_of(words: &[String]) -> Option<Command>
-    ensures { option_map job_in result ≡ asked (texts words.now) }
+/// The translation that the words ask for.
+pub fn job_of(words: &[String]) -> Option<Job>
+    ensures { option_map job_seen result ≡ asked (texts words.now) }
 {
     if words.len() == 1 {
-        command_named(words[0].as_str())
+        job_named(words[0].as_str())
     } else {
         None
     }
