@@ -16,7 +16,5 @@ pub use carriers::{Carrier, carrier_of};
 pub use ends::{End, MsgEnd};
 pub use files::msg_bytes;
 pub use jobs::Job;
-pub use laws::{
-    equal_outputs_are_of_one_message, inputs_are_exact, outputs_carry_their_message,
-};
+pub use laws::{equal_outputs_are_of_one_message, inputs_are_exact, outputs_carry_their_message};
 pub use translating::translate;

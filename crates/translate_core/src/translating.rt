@@ -17,12 +17,7 @@ use cfb_writer::Version;
 use std::alloc::Global;
 
 /// Writes the canonical .msg file of the message that bytes mean, in either version. [MS-OXMSG 2.1]
-fn to_msg<W: Sink>(
-    alloc: Global,
-    version: Version,
-    bytes: &[u8],
-    sink: &mut W,
-) -> Result<(), End>
+fn to_msg<W: Sink>(alloc: Global, version: Version, bytes: &[u8], sink: &mut W) -> Result<(), End>
     requires { length bytes.now ≤ MOST_BYTES }
     ensures told { Tells (file_job version) bytes.now (W.held sink.old) (W.held sink.new) result }
     ensures nothing { WritesNothing result sink.old sink.new }
@@ -55,12 +50,7 @@ fn to_tnef<W: Sink>(alloc: Global, bytes: &[u8], sink: &mut W) -> Result<(), End
 
 /// Translates bytes in hand. Ok says that the whole result was appended; the other ends say why not, and all but WriteFault
 /// leave the output as it was.
-pub fn translate<W: Sink>(
-    alloc: Global,
-    job: &Job,
-    bytes: &[u8],
-    sink: &mut W,
-) -> Result<(), End>
+pub fn translate<W: Sink>(alloc: Global, job: &Job, bytes: &[u8], sink: &mut W) -> Result<(), End>
     requires { length bytes.now ≤ MOST_BYTES }
     ensures told { Tells (job_seen job.now) bytes.now (W.held sink.old) (W.held sink.new) result }
     ensures nothing { WritesNothing result sink.old sink.new }
