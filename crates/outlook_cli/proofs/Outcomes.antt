@@ -1,13 +1,8 @@
 -- The three answers that there are for a job.
-use Rattle.std.proofs.Common.{◌≡◌, ℕ, ◌<◌, List, length, Option, Some, None, refl, sym, ap, subst, inl}
+use Rattle.std.proofs.Common.{◌≡◌, ℕ, List, Option, Some, None, sym, ap, subst}
 use Rattle.std.specs.Prelude.{IfSome}
-use Rattle.carrier_io.specs.Reads.{FaultOnly}
-use Rattle.carrier_io.proofs.Sides.{reads_fault}
-use Rattle.carrier_model.specs.Bytes.{MOST_BYTES}
 use Rattle.carrier_model.specs.Limits as limits
 use Rattle.carrier_model.specs.Meanings.{Meaning}
-use Rattle.carrier_model.specs.Reasons.{INPUT_TOO_LONG}
-use Rattle.carrier_model.specs.Trail.{IsExact}
 use Rattle.job_model.specs.Acceptance.{Accepts, FaultOf}
 use Rattle.job_model.specs.Commands.{Job}
 use Rattle.job_model.specs.Targets.{passed_limit}

@@ -1,9 +1,9 @@
 -- What is written carries the message that was accepted.
-use Rattle.std.proofs.Common.{◌≡◌, ◌↔◌, ℕ, List, None, refl, sym, ◌∙◌, ap}
+use Rattle.std.proofs.Common.{◌≡◌, ◌↔◌, ℕ, List, None, ap}
 use Rattle.carrier_model.specs.Bytes.{AllBytes}
 use Rattle.carrier_model.specs.Meanings.{Meaning}
 use Rattle.carrier_model.specs.Tree.{Message, GREATEST_LEVEL}
-use Rattle.job_model.specs.Acceptance.{Accepts, Carries, EnvelopeCarrier, IsReadAs, kept}
+use Rattle.job_model.specs.Acceptance.{Accepts, Carries, kept}
 use Rattle.job_model.specs.Commands.{Job, to_msg, to_msg4, to_tnef, wrap, unwrap}
 use Rattle.job_model.specs.Targets.{IsResult, passed_limit}
 use Rattle.job_model.proofs.Results.{to_msg_carries, to_msg4_carries, to_tnef_carries}

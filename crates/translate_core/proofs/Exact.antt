@@ -1,6 +1,6 @@
 -- Bytes are accepted as one message, or refused for one fault, for each job.
-use Rattle.std.proofs.Common.{◌≡◌, inl, inr, ℕ, ◌<◌, ◌≤◌, List, [], length, Result, Ok, Err, refl, sym, ◌∙◌, ap, arith}
-use Rattle.carrier_model.specs.Bytes.{AllBytes, MOST_BYTES}
+use Rattle.std.proofs.Common.{◌≡◌, inl, inr, ℕ, List, [], Result, Ok, Err, sym, ◌∙◌, ap, arith}
+use Rattle.carrier_model.specs.Bytes.{AllBytes}
 use Rattle.carrier_model.specs.Meanings.{Meaning}
 use Rattle.carrier_model.specs.Trail.{Fault, IsExact}
 use Rattle.carrier_model.specs.Tree.{GREATEST_LEVEL}
@@ -11,7 +11,6 @@ use Rattle.carrier_model.specs.Reasons.{BAD_PADDING}
 use Rattle.mail_model.specs.Envelope.{Envelope, EnvelopeFault, envelope_text}
 use Rattle.mail_model.specs.EnvelopeText.{envelope_of}
 use Rattle.tnef_model.proofs.TnefMessage.{message_exact}
-use Rattle.tnef_model.specs.TnefMessage.{TnefCarrier, TnefFault}
 
 -- the canonical envelope of bytes carries them, and no others
 pub record Mails : Type 0 where

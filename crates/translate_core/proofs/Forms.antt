@@ -1,8 +1,8 @@
 -- What a reader of either form has shown.
-use Rattle.std.proofs.Common.{◌≡◌, ℕ, ◌≤◌, true, false, List, length, Result, Ok, Err, refl, sym, subst}
+use Rattle.std.proofs.Common.{◌≡◌, ℕ, ◌≤◌, true, false, List, length, Ok, Err, refl, sym, subst}
 use Rattle.carrier_io.specs.declared.reasons.Stop.{Stop}
 use Rattle.carrier_io.specs.declared.reasons.Stop.TheVariants as stops
-use Rattle.carrier_io.specs.Reads.{Fails, FaultOnly, Gives, MeansOnly, Reads}
+use Rattle.carrier_io.specs.Reads.{Fails, FaultOnly, MeansOnly, Reads}
 use Rattle.carrier_io.specs.Reasons.{fault_of}
 use Rattle.carrier_io.proofs.Sides.{reads_ok, reads_fault}
 use Rattle.carrier_model.specs.Bytes.{MOST_BYTES}

@@ -1,5 +1,5 @@
 -- What a translation tells, of the one message that was accepted.
-use Rattle.std.proofs.Common.{◌≡◌, inl, inr, ℕ, ◌≤◌, List, length, Option, Some, None, Result, Ok, Err, refl}
+use Rattle.std.proofs.Common.{◌≡◌, inl, inr, ℕ, ◌≤◌, List, length, Option, None, Result, Ok, Err}
 use Rattle.carrier_io.specs.Reads.{MeansOnly, FaultOnly, Reads}
 use Rattle.carrier_io.specs.Reasons.{fault_of}
 use Rattle.carrier_io.specs.declared.reasons.Stop.{Stop}
@@ -8,8 +8,8 @@ use Rattle.carrier_io.proofs.Sides.{reads_ok, reads_fault}
 use Rattle.carrier_model.specs.Bytes.{AllBytes, MOST_BYTES}
 use Rattle.carrier_model.specs.Meanings.{Meaning}
 use Rattle.carrier_model.specs.Trail.{Fault, IsExact}
-use Rattle.job_model.specs.Acceptance.{Accepts, FaultOf, Carries, CarriesMessage, MessageFault, EnvelopeCarrier, PayloadFault}
-use Rattle.job_model.specs.Commands.{Job, to_msg, to_msg4, to_tnef, wrap, unwrap}
+use Rattle.job_model.specs.Acceptance.{Accepts, FaultOf, Carries, CarriesMessage, MessageFault}
+use Rattle.job_model.specs.Commands.{Job, wrap, unwrap}
 use Rattle.job_model.specs.Targets.{IsResult, passed_limit}
 use Rattle.mail_model.specs.Envelope.{Envelope, EnvelopeFault}
 use Rattle.tnef_model.specs.TnefMessage.{TnefCarrier, TnefFault}

@@ -2,7 +2,7 @@ use Rattle.std.proofs.Common.{refl, arith}
 use Rattle.job_model.specs.Acceptance.{Accepts}
 use Rattle.job_model.specs.Commands.{wrap as plain_wrap}
 use Rattle.mail_model.specs.EnvelopeText.{envelope_of}
-use Rattle.msg_tree.specs.Whole.{meaning_in, plain_of}
+use Rattle.msg_tree.specs.Whole.{meaning_in}
 use Rattle.translate_core.proofs.Limiting.{mail_too_large, mail_fits}
 use Rattle.translate_core.proofs.Telling.{accepted}
 use Rattle.translate_core.proofs.mails.wrap.Goals as goal
