@@ -1,4 +1,5 @@
 use crate::status::Status;
+use crate::stream_tests::{NAMED, listed};
 use crate::tests::{ONE_PROPERTY, refused, run_over};
 use carrier_io::{Reason, le16, le32, u32_at};
 use msg_tree::Limit;
@@ -12,6 +13,15 @@ fn file_of(rt: &HostRuntime, word: &str, stream: &[u8]) -> Result<Vec<u8>, Fail>
     let got = run_over(rt, &[word], stream, &[], &[])?;
     let done = got.status == Status::Done;
     Ok(done.then_some(got.output).ok_or("a result")?)
+}
+
+/// The file with other bytes from a place on.
+fn changed(rt: &HostRuntime, file: &[u8], at: usize, bytes: &[u8]) -> Result<Vec<u8>, Fail> {
+    let mut copy = file.to_vec(rt.alloc())?;
+    for (slot, byte) in copy.iter_mut().skip(at).zip(bytes) {
+        *slot = *byte;
+    }
+    Ok(copy)
 }
 
 /// A stream with a property 1013 of so many zeros.
@@ -88,24 +98,87 @@ fn values_below_and_from_4096_bytes(rt: HostRuntime) -> Result<(), Fail> {
 }
 
 #[test]
+fn files_of_version_4(rt: HostRuntime) -> Result<(), Fail> {
+    let file = file_of(&rt, "to-msg4", &EMPTY)?;
+    assert_eq!(rt; file.len(), 20_480);
+    let words = [
+        (40, 1),
+        (4096, 0xFFFF_FFFD),
+        (4100, 0xFFFF_FFFE),
+        (4104, 0xFFFF_FFFE),
+        (4108, 0xFFFF_FFFE),
+    ];
+    for (at, word) in words {
+        assert_eq!(rt; u32_at(&file, at), word);
+    }
+    let other = file_of(&rt, "to-msg", &file)?;
+    assert_eq!(rt; other, file_of(&rt, "to-msg", &EMPTY)?);
+    let faults = [(4100, Reason::Cycle, 4100), (8956, Reason::Shared, 8948)];
+    for (at, reason, offset) in faults {
+        let bent = changed(&rt, &file, at, &[1, 0, 0, 0])?;
+        let got = run_over(&rt, &["to-tnef"], &bent, &[], &[])?;
+        assert_eq!(rt; got.status, refused(reason, offset));
+    }
+    Ok(())
+}
+
+#[test]
 fn files_with_faults(rt: HostRuntime) -> Result<(), Fail> {
     let file = file_of(&rt, "to-msg", &EMPTY)?;
     let table = [
         (520, 1, Reason::Cycle, 520),
         (528, 2, Reason::Shared, 528),
         (1144, 1024, Reason::ShortChain, 528),
+        (1784, 31, Reason::BadPropStream, 1784),
     ];
     for (at, word, reason, offset) in table {
-        let mut changed = file.to_vec(rt.alloc())?;
-        for (i, byte) in le32(word).iter().enumerate() {
-            changed[at + i] = *byte;
-        }
-        let got = run_over(&rt, &["to-tnef"], &changed, &[], &[])?;
+        let bent = changed(&rt, &file, at, &le32(word))?;
+        let got = run_over(&rt, &["to-tnef"], &bent, &[], &[])?;
         assert_eq!(rt; got.status, refused(reason, offset));
         assert_eq!(rt; got.output.len(), 0);
     }
+    let high = changed(&rt, &file, 1788, &[1, 0, 0, 0])?;
+    let stream = file_of(&rt, "to-tnef", &high)?;
+    assert_eq!(rt; stream, file_of(&rt, "to-tnef", &EMPTY)?);
     let got = run_over(&rt, &["wrap"], &file, &[], &[])?;
     assert_eq!(rt; got.status, refused(Reason::BadSignature, 0));
+    Ok(())
+}
+
+#[test]
+fn entries_of_a_property_list(rt: HostRuntime) -> Result<(), Fail> {
+    let file = file_of(&rt, "to-msg", &ONE_PROPERTY)?;
+    let table = [
+        ([3, 0, 0, 0x80, 0, 0, 0, 0, 0], Reason::UnmappedId),
+        ([8, 0, 0x17, 0, 0, 0, 0, 0, 0], Reason::UnknownType),
+        ([0x1f, 0, 0x37, 0, 6, 0, 0, 0, 6], Reason::MissingStream),
+    ];
+    for (entry, reason) in &table {
+        let bent = changed(&rt, &file, 2592, entry)?;
+        let got = run_over(&rt, &["to-tnef"], &bent, &[], &[])?;
+        assert_eq!(rt; got.status, refused(*reason, 2592));
+        assert_eq!(rt; got.output.len(), 0);
+    }
+    let empty = changed(&rt, &file, 2592, &[0x1f, 0, 0x37, 0, 6, 0, 0, 0, 2])?;
+    let list = [
+        1, 0, 0, 0, 0x1f, 0, 0x37, 0, 1, 0, 0, 0, 2, 0, 0, 0, 0, 0, 0, 0,
+    ];
+    assert_eq!(rt; file_of(&rt, "to-tnef", &empty)?, listed(&rt, &list)?);
+    Ok(())
+}
+
+#[test]
+fn two_ids_of_one_name(rt: HostRuntime) -> Result<(), Fail> {
+    let mut list = Vec::from_slice(rt.alloc(), &[2, 0, 0, 0])?;
+    list.extend_from_slice(&NAMED)?;
+    list.extend_from_slice(&[3, 0, 1, 0x80])?;
+    list.extend_from_slice(&NAMED[4..24])?;
+    list.extend_from_slice(&[0x0e, 0x82, 0, 0, 1, 0, 0, 0])?;
+    let file = file_of(&rt, "to-msg", &listed(&rt, &list)?)?;
+    let bent = changed(&rt, &file, 2632, &[0x0d])?;
+    let got = run_over(&rt, &["to-tnef"], &bent, &[], &[])?;
+    assert_eq!(rt; got.status, refused(Reason::DuplicateProperty, 2864));
+    assert_eq!(rt; got.output.len(), 0);
     Ok(())
 }
 

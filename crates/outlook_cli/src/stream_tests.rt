@@ -17,7 +17,7 @@ const RENDERING: [u8; 14] = [1, 0, 0xff, 0xff, 0xff, 0xff, 0, 0, 0, 0, 0, 0, 0, 
 const MESSAGE: [u8; 16] = [7, 3, 2, 0, 0, 0, 0, 0, 0xc0, 0, 0, 0, 0, 0, 0, 0x46];
 
 /// A property of the type Integer32, value 1, named 820D in a set; its id is 8000.
-const NAMED: [u8; 32] = [
+pub(crate) const NAMED: [u8; 32] = [
     3, 0, 0, 0x80, 2, 0x20, 6, 0, 0, 0, 0, 0, 0xc0, 0, 0, 0, 0, 0, 0, 0x46, 0, 0, 0, 0, 0x0d, 0x82,
     0, 0, 1, 0, 0, 0,
 ];
@@ -44,7 +44,7 @@ fn stream(rt: &HostRuntime, id: u32, value: &[u8]) -> Result<Vec<u8>, Fail> {
 }
 
 /// The front, and the list of a message.
-fn listed(rt: &HostRuntime, list: &[u8]) -> Result<Vec<u8>, Fail> {
+pub(crate) fn listed(rt: &HostRuntime, list: &[u8]) -> Result<Vec<u8>, Fail> {
     stream(rt, 0x0006_9003, list)
 }
 
