@@ -9,14 +9,19 @@ use std::test::*;
 const EMPTY: [u8; 6] = [0x78, 0x9f, 0x3e, 0x22, 0x00, 0x00];
 
 /// The file of a stream.
-fn file_of(rt: &HostRuntime, word: &str, stream: &[u8]) -> Result<Vec<u8>, Fail> {
+pub(crate) fn file_of(rt: &HostRuntime, word: &str, stream: &[u8]) -> Result<Vec<u8>, Fail> {
     let got = run_over(rt, &[word], stream, &[], &[])?;
     let done = got.status == Status::Done;
     Ok(done.then_some(got.output).ok_or("a result")?)
 }
 
 /// The file with other bytes from a place on.
-fn changed(rt: &HostRuntime, file: &[u8], at: usize, bytes: &[u8]) -> Result<Vec<u8>, Fail> {
+pub(crate) fn changed(
+    rt: &HostRuntime,
+    file: &[u8],
+    at: usize,
+    bytes: &[u8],
+) -> Result<Vec<u8>, Fail> {
     let mut copy = file.to_vec(rt.alloc())?;
     for (slot, byte) in copy.iter_mut().skip(at).zip(bytes) {
         *slot = *byte;

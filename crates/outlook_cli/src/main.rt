@@ -32,6 +32,8 @@ fn main(rt: HostRuntime) -> ExitCode {
 #[cfg(test)]
 mod file_tests;
 #[cfg(test)]
+mod layout_tests;
+#[cfg(test)]
 mod mail_tests;
 #[cfg(test)]
 mod stream_tests;

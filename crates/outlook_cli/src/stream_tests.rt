@@ -14,7 +14,7 @@ const FRONT: [u8; 40] = [
 const RENDERING: [u8; 14] = [1, 0, 0xff, 0xff, 0xff, 0xff, 0, 0, 0, 0, 0, 0, 0, 0];
 
 /// The interface of a message.
-const MESSAGE: [u8; 16] = [7, 3, 2, 0, 0, 0, 0, 0, 0xc0, 0, 0, 0, 0, 0, 0, 0x46];
+pub(crate) const MESSAGE: [u8; 16] = [7, 3, 2, 0, 0, 0, 0, 0, 0xc0, 0, 0, 0, 0, 0, 0, 0x46];
 
 /// A property of the type Integer32, value 1, named 820D in a set; its id is 8000.
 pub(crate) const NAMED: [u8; 32] = [
@@ -49,7 +49,7 @@ pub(crate) fn listed(rt: &HostRuntime, list: &[u8]) -> Result<Vec<u8>, Fail> {
 }
 
 /// A message with one attachment, whose Object has a size and bytes; the value begins at 105.
-fn with_object(rt: &HostRuntime, size: u32, value: &[&[u8]]) -> Result<Vec<u8>, Fail> {
+pub(crate) fn with_object(rt: &HostRuntime, size: u32, value: &[&[u8]]) -> Result<Vec<u8>, Fail> {
     let mut out = listed(rt, &[0, 0, 0, 0])?;
     attribute(&mut out, 2, 0x0006_9002, &RENDERING)?;
     let mut list = Vec::from_slice(rt.alloc(), &[1, 0, 0, 0, 0x0d, 0, 1, 0x37, 1, 0, 0, 0])?;

@@ -1,0 +1,132 @@
+use crate::file_tests::{changed, file_of};
+use crate::stream_tests::{MESSAGE, listed, with_object};
+use std::test::*;
+
+/// The interface of an OLE store.
+const STORAGE: [u8; 16] = [0x0b, 0, 0, 0, 0, 0, 0, 0, 0xc0, 0, 0, 0, 0, 0, 0, 0x46];
+
+/// Four properties of the type Integer32.
+const FOUR: [u8; 36] = [
+    4, 0, 0, 0, 3, 0, 0x17, 0, 2, 0, 0, 0, 3, 0, 0x26, 0, 1, 0, 0, 0, 3, 0, 0x36, 0, 0, 0, 0, 0, 3,
+    0, 7, 0x0e, 5, 0, 0, 0,
+];
+
+/// The numbers of a compound file of three sectors that has nothing in it but its root, by their places.
+const EMPTY_FILE: [(u32, u32); 31] = [
+    (0, 0xE011_CFD0),
+    (4, 0xE11A_B1A1),
+    (24, 0x0003_003E),
+    (28, 0x0009_FFFE),
+    (32, 6),
+    (44, 1),
+    (48, 1),
+    (56, 4096),
+    (60, 0xFFFF_FFFE),
+    (68, 0xFFFF_FFFE),
+    (512, 0xFFFF_FFFD),
+    (516, 0xFFFF_FFFE),
+    (1024, 0x006F_0052),
+    (1028, 0x0074_006F),
+    (1032, 0x0045_0020),
+    (1036, 0x0074_006E),
+    (1040, 0x0079_0072),
+    (1088, 0x0105_0016),
+    (1092, 0xFFFF_FFFF),
+    (1096, 0xFFFF_FFFF),
+    (1100, 0xFFFF_FFFF),
+    (1140, 0xFFFF_FFFE),
+    (1220, 0xFFFF_FFFF),
+    (1224, 0xFFFF_FFFF),
+    (1228, 0xFFFF_FFFF),
+    (1348, 0xFFFF_FFFF),
+    (1352, 0xFFFF_FFFF),
+    (1356, 0xFFFF_FFFF),
+    (1476, 0xFFFF_FFFF),
+    (1480, 0xFFFF_FFFF),
+    (1484, 0xFFFF_FFFF),
+];
+
+/// A compound file with these numbers, and free words where its table has no other.
+fn compound(rt: &HostRuntime, numbers: &[(u32, u32)]) -> Result<Vec<u8>, Fail> {
+    let mut file = Vec::new(rt.alloc());
+    for at in 0..1536u32 {
+        let free = (80 <= at && at < 512) || (520 <= at && at < 1024);
+        file.push(if free { 0xFF } else { 0 })?;
+    }
+    for (at, number) in numbers {
+        file = changed(rt, &file, *at as usize, &number.to_le_bytes())?;
+    }
+    Ok(file)
+}
+
+/// The file whose ten sectors from the sixth on stand in falling order, the value's chain with them.
+fn falling(rt: &HostRuntime, file: &[u8]) -> Result<Vec<u8>, Fail> {
+    let mut copy = changed(rt, file, 1780, &[14])?;
+    for i in 0..10u32 {
+        let from = (15 - i) as usize * 512;
+        let sector = file.get(from..from + 512).ok_or("a sector")?;
+        copy = changed(rt, &copy, (6 + i) as usize * 512, sector)?;
+        let next = if i == 0 { 0xFFFF_FFFE } else { 4 + i };
+        copy = changed(rt, &copy, 532 + 4 * i as usize, &next.to_le_bytes())?;
+    }
+    Ok(copy)
+}
+
+#[test]
+fn lists_across_mini_sectors(rt: HostRuntime) -> Result<(), Fail> {
+    let inner = listed(&rt, &FOUR)?;
+    let stream = with_object(&rt, 103, &[&MESSAGE, &inner, &[0]])?;
+    let file = file_of(&rt, "to-msg", &stream)?;
+    assert_eq!(rt; file_of(&rt, "to-tnef", &file)?, stream);
+    Ok(())
+}
+
+#[test]
+fn values_in_falling_sectors(rt: HostRuntime) -> Result<(), Fail> {
+    let mut list = Vec::from_slice(rt.alloc(), &[1, 0, 0, 0, 2, 1, 0x13, 0x10, 1, 0, 0, 0])?;
+    list.extend_from_slice(&5000u32.to_le_bytes())?;
+    for i in 0..5000u32 {
+        list.push((i % 251) as u8)?;
+    }
+    let stream = listed(&rt, &list)?;
+    let file = file_of(&rt, "to-msg", &stream)?;
+    assert_eq!(rt; file.len(), 8192);
+    let other = falling(&rt, &file)?;
+    assert_eq!(rt; file_of(&rt, "to-tnef", &other)?, stream);
+    Ok(())
+}
+
+#[test]
+fn entries_that_are_passed_over(rt: HostRuntime) -> Result<(), Fail> {
+    let mut file = file_of(&rt, "to-msg", &listed(&rt, &FOUR)?)?;
+    let entries = [
+        (2608, &[0x0d, 0, 0x12, 0x0e, 6, 0, 0, 0, 0][..]),
+        (2624, &[0xfb, 0, 0x40, 0x67, 6, 0, 0, 0, 0][..]),
+        (2640, &[0x1f, 0, 0x37, 0, 6, 0, 0, 0, 2][..]),
+        (1152 + 67, &[0][..]),
+        (1664 + 67, &[0][..]),
+    ];
+    for (at, bytes) in entries {
+        file = changed(&rt, &file, at, bytes)?;
+    }
+    let list = [
+        2, 0, 0, 0, 3, 0, 0x17, 0, 2, 0, 0, 0, 0x1f, 0, 0x37, 0, 1, 0, 0, 0, 2, 0, 0, 0, 0, 0, 0, 0,
+    ];
+    assert_eq!(rt; file_of(&rt, "to-tnef", &file)?, listed(&rt, &list)?);
+    Ok(())
+}
+
+#[test]
+fn a_store_without_members(rt: HostRuntime) -> Result<(), Fail> {
+    let carried = compound(&rt, &EMPTY_FILE)?;
+    let stream = with_object(&rt, 1552, &[&STORAGE, &carried])?;
+    assert_eq!(rt; stream.len(), 1659);
+    assert_eq!(rt;
+        file_of(&rt, "to-tnef", &stream)?,
+        stream.to_vec(rt.alloc())?
+    );
+    let file = file_of(&rt, "to-msg", &stream)?;
+    assert_eq!(rt; file.len(), 3584);
+    assert_eq!(rt; file_of(&rt, "to-tnef", &file)?, stream);
+    Ok(())
+}
