@@ -50,6 +50,14 @@ def cases(scale):
     yield "unwrap", "unwrap", lambda: inputs.envelope(inputs.tnef_attachment(large))
     yield "stream-in-order", "to-tnef", lambda: inputs.msg_stream(large, False)
     yield "stream-shuffled", "to-tnef", lambda: inputs.msg_stream(large, True)
+    yield "msg-texts-half", "to-tnef", lambda: inputs.msg_texts(15_000 // scale)
+    yield "msg-texts", "to-tnef", lambda: inputs.msg_texts(30_000 // scale)
+    yield "msg-recipients", "to-tnef", lambda: inputs.msg_recipients(5, 2048 // scale)
+    for order in ("rising", "random"):
+        yield f"msg-names-{order}", "to-tnef", lambda order=order: inputs.msg_names(32_000 // scale, order)
+    yield "msg-names-ids", "to-tnef", lambda: inputs.msg_names(400 // scale, "random", 80)
+    yield "to-msg4-attachment", "to-msg4", lambda: inputs.tnef_attachment(large)
+    yield "to-msg-few-each", "to-msg", lambda: inputs.tnef_few_each(2000 // scale)
     yield "entries-row", "to-tnef", lambda: inputs.msg_entries(entries, True)
     yield "entries-row-half", "to-tnef", lambda: inputs.msg_entries(entries // 2, True)
     yield "entries-storage", "to-tnef", lambda: inputs.msg_entries(entries, False)
@@ -59,7 +67,8 @@ def cases(scale):
 PAIRS = [
     ("named-rising", "named-rising-half"), ("named-falling", "named-falling-half"),
     ("named-random", "named-random-half"), ("named-falling", "named-rising"), ("named-random", "named-rising"),
-    ("names", "names-half"), ("stream-shuffled", "stream-in-order"), ("entries-row", "entries-row-half"),
+    ("names", "names-half"), ("msg-texts", "msg-texts-half"), ("msg-names-random", "msg-names-rising"),
+    ("stream-shuffled", "stream-in-order"), ("entries-row", "entries-row-half"),
     ("entries-storage", "entries-storage-half"), ("store-row", "store-row-half"), ("store-tree", "store-tree-half"),
 ]
 

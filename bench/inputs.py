@@ -324,3 +324,49 @@ def msg_entries(count, row, sector=512):
     if row:
         return compound(Entry("Root Entry", children=[properties] + strange, row=row), size=sector)
     return compound(Entry("Root Entry", children=[properties, Entry("strange", children=strange)]), size=sector)
+
+
+def msg_texts(count, sector=512):
+    """A message with so many texts of a few bytes, each in the mini stream."""
+    values = [(0x0100 + k, b"value %d" % k) for k in range(count)]
+    return compound(Entry("Root Entry", children=[
+        Entry("__properties_version1.0", msg_properties([(number << 16 | 0x1E, len(x) + 1) for number, x in values])),
+    ] + [Entry(f"__substg1.0_{number:04X}001E", x) for number, x in values]), size=sector)
+
+
+def msg_recipients(messages, each, sector=512):
+    """So many messages, each but the first in an attachment of the one before, with so many recipients of one number."""
+    inner = None
+    for level in reversed(range(messages)):
+        people = [
+            Entry(f"__recip_version1.0_#{k:08X}", children=[
+                Entry("__properties_version1.0", bytes(8) + struct.pack("<IIII", 0x0C150003, 6, 1, 0)),
+            ]) for k in range(each)
+        ]
+        held = []
+        if inner is not None:
+            held = [Entry("__attach_version1.0_#00000000", children=[
+                Entry("__properties_version1.0", bytes(8) + struct.pack("<IIII", 0x3701000D, 6, 0xFFFFFFFF, 1)),
+                Entry("__substg1.0_3701000D", children=inner),
+            ])]
+        head = bytes(32 if level == 0 else 24)
+        inner = [Entry("__properties_version1.0", head)] + people + held
+    return compound(Entry("Root Entry", children=inner), size=sector)
+
+
+def msg_names(count, order, ids=1, sector=512):
+    """A message with so many names that are numbers, in the map in this order, and as many ids for each."""
+    numbers = list(range(count))
+    if order == "falling":
+        numbers.reverse()
+    elif order == "random":
+        random.Random(5).shuffle(numbers)
+    pairs = [(number, id_) for id_, number in enumerate(n for n in numbers for _ in range(ids))]
+    entries = b"".join(struct.pack("<II", number, id_ << 16 | 3 << 1) for number, id_ in pairs)
+    used = [0x80000003 | id_ << 16 for _, id_ in pairs[::ids]]
+    return compound(Entry("Root Entry", children=[
+        Entry("__nameid_version1.0", children=[
+            Entry("__substg1.0_00020102", SET), Entry("__substg1.0_00030102", entries), Entry("__substg1.0_00040102", b""),
+        ]),
+        Entry("__properties_version1.0", msg_properties([(tag, 1) for tag in used])),
+    ]), size=sector)
