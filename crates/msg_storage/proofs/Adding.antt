@@ -4,6 +4,7 @@ use Rattle.std.specs.Prelude.{OnOk, slice_get, replicate}
 use Rattle.std.specs.List.{flat_map}
 use Rattle.std.proofs.lemmas.List.{length-take-le}
 use Rattle.std.proofs.lemmas.Option.{slice_get_within}
+use Rattle.carrier_io.specs.declared.failures.NoMemory.{NoMemory}
 use Rattle.carrier_model.specs.FileTrees as trees
 use Rattle.carrier_model.specs.FileTrees.{FileTree, and_files, NO_CLASS}
 use Rattle.carrier_model.specs.Keys.{Name}
@@ -55,6 +56,12 @@ adds_storage old mid new at number name class inside e p q =
     let root : new.root_class ≡ old.root_class = ap (λ (l : Listed). l.root_class) q ∙ ap (λ (l : Listed). l.root_class) p in
     let all : new.storages ≡ grown (with_child old.storages at (storage name class (length old.storages)) ++ [] ∷ []) (length old.storages) inside = ap (λ (l : Listed). l.storages) q ∙ (λ i. grown (p i).storages (e i) inside) in
     λ i. record { root_class = root i; storages = all i }
+
+-- the same where what is in it may have been refused
+pub told_storage : (r : Result (Unit {0}) NoMemory) (old mid new : Listed) (at number : ℕ) (name class : List ℕ) (inside : FileTree) → number ≡ length old.storages → mid ≡ record old { storages = with_child old.storages at (storage name class (length old.storages)) ++ [] ∷ [] } → OnOk r (Adds mid new number inside)
+    → OnOk r (Adds old new at (trees.storage name class inside trees.no_file))
+told_storage (Ok u) old mid new at number name class inside e p q = adds_storage old mid new at number name class inside e p q
+told_storage (Err e) old mid new at number name class inside f p q = tt
 
 -- ---- recipients
 

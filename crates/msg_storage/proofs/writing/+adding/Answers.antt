@@ -1,17 +1,20 @@
-use Rattle.std.proofs.Common.{◌≡◌, None, ap, arith, length, subst, take, take_all}
-use Rattle.carrier_model.specs.FileTrees.{FileTree, and_files}
+use Rattle.std.proofs.Common.{◌≡◌, None, ap, arith, false, length, subst, sym, take, take_all, ◌∙◌}
+use Rattle.std.specs.Prelude.{OnOk}
+use Rattle.carrier_model.specs.FileTrees.{FileTree, and_files, no_file, storage, NO_CLASS}
 use Rattle.carrier_model.specs.Tree as plain
 use Rattle.carrier_model.specs.Tree.{Attached, attachments_from, depth_of_body}
 use Rattle.carrier_model.proofs.Trees.{depth_at_le}
 use Rattle.msg_model.specs.ReadBack.{BodyHasFewParts}
-use Rattle.msg_model.specs.WrittenMsg.{attachment_files, head_of, list_files, recipient_files}
+use Rattle.msg_model.specs.StreamNames.{value_name}
+use Rattle.msg_model.specs.WrittenMsg.{OBJECT_TAG, attachment_files, body_files, head_of, list_files, message_files, recipient_files}
 use Rattle.msg_nameid.specs.Maps.{names_in}
 use Rattle.msg_props.specs.Heads.{head_bytes}
 use Rattle.msg_storage.specs.Written.{Adds, attachment_tree}
-use Rattle.msg_storage.proofs.Adding.{adds_two, adds_within, attachment_few, attachment_known, attachment_stores, attachments_taken}
+use Rattle.msg_storage.proofs.Adding.{adds_two, adds_within, attachment_few, attachment_known, attachment_stores, attachments_taken, told_storage}
+use Rattle.msg_storage.proofs.Bodies.{message_made}
 use Rattle.msg_storage.proofs.Parts.{attachment_named, below_named, body_is, body_named, depth_below, few_attachments, few_below, files_told, recipients_named, stores_below}
 use Rattle.msg_tree.specs.Keeping.{BodyHasStores}
-use Rattle.msg_tree.specs.Meaning.{attached_of, list_of, tree_of}
+use Rattle.msg_tree.specs.Meaning.{attached_of, body_of, list_of, tree_of}
 use Rattle.msg_tree.specs.declared.messages.Attachment.{out-Attachment}
 use Rattle.msg_tree.specs.declared.messages.Message.{out-Message}
 use Rattle.msg_storage.proofs.writing.+adding.Goals as goal
@@ -88,3 +91,17 @@ add_message-returns g t c =
     subst (λ (f : FileTree). Adds c.args.files.now c.loop-k.files c.args.at f) (files_told g.B.Blob.bytes m names c.args.top)
     (adds_two steps c.args.files.now c.add_list.new.files c.loop-k.files c.args.at own (and_files rows pieces) c.in_ok-add_list.ensures
     (adds_two steps c.add_list.new.files c.add_recipients.new.files c.loop-k.files c.args.at rows pieces c.in_ok-add_recipients.ensures last))
+
+pub add_body-returns-in_ok-storage-in-Message : goal.add_body-returns-in_ok-storage-in-Message
+add_body-returns-in_ok-storage-in-Message g t c =
+    let names = names_in c.args.names.now in
+    let old = c.args.files.now in
+    let mid = c.add_named_storage.new.self in
+    let new = c.add_message.new.files in
+    let m = tree_of g.B.Blob.bytes c.deref-in-Message.result.now in
+    let inside : FileTree = message_files names false m in
+    let is : body_of g.B.Blob.bytes c.args.body.now ≡ plain.embedded m = ap (body_of g.B.Blob.bytes) c.in-Message.is ∙ message_made g.B.Blob.bytes c.in-Message.inner ∙ ap (λ x. plain.embedded (tree_of g.B.Blob.bytes x)) (sym c.deref-in-Message.ensures) in
+    let name : c.deref.result.now ≡ value_name OBJECT_TAG = c.deref.ensures.value ∙ c.in_ok-name-in-Message.ensures in
+    let all = told_storage c.add_message.result old mid new c.args.at c.in_ok-storage-in-Message.storage c.deref.result.now NO_CLASS inside c.in_ok-storage-in-Message.ensures.number c.in_ok-storage-in-Message.ensures.ok c.add_message.ensures in
+    subst (λ b. OnOk c.add_message.result (Adds old new c.args.at (body_files names b))) (sym is)
+    (subst (λ n. OnOk c.add_message.result (Adds old new c.args.at (storage n NO_CLASS inside no_file))) name all)
