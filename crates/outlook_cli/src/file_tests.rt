@@ -9,10 +9,19 @@ use std::test::*;
 const EMPTY: [u8; 6] = [0x78, 0x9f, 0x3e, 0x22, 0x00, 0x00];
 
 /// The file of a stream.
-pub(crate) fn file_of(rt: &HostRuntime, word: &str, stream: &[u8]) -> Result<Vec<u8>, Fail> {
-    let got = run_over(rt, &[word], stream, &[], &[])?;
+pub(crate) fn file_of(rt: &HostRuntime, command: &str, stream: &[u8]) -> Result<Vec<u8>, Fail> {
+    let got = run_over(rt, &[command], stream, &[], &[])?;
     let done = got.status == Status::Done;
     Ok(done.then_some(got.output).ok_or("a result")?)
+}
+
+/// The number in the four bytes at a place.
+fn word(file: &[u8], at: u32) -> Option<u32> {
+    let at = at as usize;
+    match file.get(at..at + 4) {
+        Some(bytes) => Some(u32_at(bytes, 0)),
+        None => None,
+    }
 }
 
 /// The file with other bytes from a place on.
@@ -72,8 +81,8 @@ fn the_file_of_an_empty_message(rt: HostRuntime) -> Result<(), Fail> {
         (1024 + 5 * 128 + 116, 0),
         (1024 + 5 * 128 + 120, 32),
     ];
-    for (at, word) in table {
-        assert_eq!(rt; u32_at(&file, at), word);
+    for (at, number) in table {
+        assert_eq!(rt; word(&file, at), Some(number));
     }
     Ok(())
 }
@@ -84,8 +93,8 @@ fn files_are_read_back(rt: HostRuntime) -> Result<(), Fail> {
     let file = file_of(&rt, "to-msg", &ONE_PROPERTY)?;
     assert_eq!(rt; file.len(), 3072);
     assert_eq!(rt; &file[2592..2608], &entry[..]);
-    for word in ["to-msg", "to-msg4"] {
-        let file = file_of(&rt, word, &ONE_PROPERTY)?;
+    for command in ["to-msg", "to-msg4"] {
+        let file = file_of(&rt, command, &ONE_PROPERTY)?;
         let stream = file_of(&rt, "to-tnef", &file)?;
         assert_eq!(rt; stream.as_slice(), &ONE_PROPERTY[..]);
     }
@@ -113,8 +122,8 @@ fn files_of_version_4(rt: HostRuntime) -> Result<(), Fail> {
         (4104, 0xFFFF_FFFE),
         (4108, 0xFFFF_FFFE),
     ];
-    for (at, word) in words {
-        assert_eq!(rt; u32_at(&file, at), word);
+    for (at, number) in words {
+        assert_eq!(rt; word(&file, at), Some(number));
     }
     let other = file_of(&rt, "to-msg", &file)?;
     assert_eq!(rt; other, file_of(&rt, "to-msg", &EMPTY)?);
@@ -136,8 +145,8 @@ fn files_with_faults(rt: HostRuntime) -> Result<(), Fail> {
         (1144, 1024, Reason::ShortChain, 528),
         (1784, 31, Reason::BadPropStream, 1784),
     ];
-    for (at, word, reason, offset) in table {
-        let bent = changed(&rt, &file, at, &le32(word))?;
+    for (at, number, reason, offset) in table {
+        let bent = changed(&rt, &file, at, &le32(number))?;
         let got = run_over(&rt, &["to-tnef"], &bent, &[], &[])?;
         assert_eq!(rt; got.status, refused(reason, offset));
         assert_eq!(rt; got.output.len(), 0);
