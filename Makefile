@@ -3,7 +3,7 @@ PREFIX ?= /usr/local
 CRATE := crates/outlook_cli
 PROGRAM := $(CRATE)/out/outlook_cli
 
-.PHONY: run build test install
+.PHONY: run build test examples install
 
 # Compiled without its proofs, for a first look.
 run:
@@ -18,5 +18,10 @@ build:
 test:
 	.ci/run
 
+# The examples of README.md on the shipped sample, with the built program.
+examples:
+	bench/examples.sh $(PROGRAM)
+
 install: build
 	install -D -m 755 $(PROGRAM) $(DESTDIR)$(PREFIX)/bin/outlook_cli
+	install -D -m 644 docs/outlook_cli.1 $(DESTDIR)$(PREFIX)/share/man/man1/outlook_cli.1

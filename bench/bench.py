@@ -8,8 +8,8 @@
 
 A line of a case has the processor time of the program (user and system, the least of the runs), that time over the
 one of sha256sum, the peak of memory in MiB, and the exit code. Pairs of cases of which one has half the size of the
-other, and those that differ in order, are set against each other at the end. A case whose command or input the program
-does not know yet is marked so. Exit code 3 says that the result passes a limit of the target: so does to-tnef where
+other, and those that differ in order, are set against each other at the end. `sample` reads none of its input. A case whose
+command or input the program does not know yet is marked so. Exit code 3 says that the result passes a limit of the target: so does to-tnef where
 there are more than 32,000 names, after all of the input was read.
 """
 
@@ -45,6 +45,10 @@ def cases(scale):
     yield "names-half", "to-tnef", lambda: inputs.tnef_recipients(names // 200, 100)
     yield "names", "to-tnef", lambda: inputs.tnef_recipients(names // 100, 100)
     yield "show-attachment", "show", lambda: inputs.tnef_attachment(large)
+    yield "show-unnamed", "show", lambda: inputs.tnef_unnamed(half, "rising")
+    yield "check-attachment", "check", lambda: inputs.tnef_attachment(large)
+    yield "check-unnamed", "check", lambda: inputs.tnef_unnamed(half, "rising")
+    yield "sample", f"sample {5000 // scale}", lambda: inputs.tnef_attachment(large)
     yield "to-msg-attachment", "to-msg", lambda: inputs.tnef_attachment(large)
     yield "wrap", "wrap", lambda: inputs.tnef_attachment(large)
     yield "unwrap", "unwrap", lambda: inputs.envelope(inputs.tnef_attachment(large))
@@ -95,7 +99,7 @@ def measured(words, source, runs):
 
 
 def is_unknown(code, report):
-    return code == 2 or report.startswith((b"usage", b"refused 2 NotBuilt"))
+    return code == 2 or report.startswith((b"usage", b"refused 2 "))
 
 
 def compared(chosen, command, source, seconds, above):
@@ -103,7 +107,7 @@ def compared(chosen, command, source, seconds, above):
     if not chosen.against:
         return ""
     size = source.stat().st_size / MIB
-    before, peak, code, report = measured([chosen.against, command], source, chosen.runs)
+    before, peak, code, report = measured([chosen.against, *command.split()], source, chosen.runs)
     if is_unknown(code, report) or not before:
         return "  not known to the other"
     return f"  {seconds / before:5.2f} of the time, {above / max(peak - size, 1):5.2f} of the memory above the input"
@@ -130,21 +134,21 @@ def main():
             print(f"{name:22} {command}")
         return
     times = {}
-    print(f"{'case':22} {'command':8} {'MiB in':>7} {'seconds':>8} {'sha256':>7} {'ratio':>6} {'peak':>6} code")
+    print(f"{'case':22} {'command':11} {'MiB in':>7} {'seconds':>8} {'sha256':>7} {'ratio':>6} {'peak':>6} code")
     with tempfile.TemporaryDirectory() as folder:
         source = pathlib.Path(folder) / "input"
         for name, command, _ in wanted:
             make(name, chosen.scale, source)
             size = source.stat().st_size / MIB
-            code, report = run([chosen.program, command], source)[2:]
+            code, report = run([chosen.program, *command.split()], source)[2:]
             if is_unknown(code, report):
-                print(f"{name:22} {command:8} {size:7.1f} not known yet: {report.decode(errors='replace').strip()[:40]}")
+                print(f"{name:22} {command:11} {size:7.1f} not known yet: {report.decode(errors='replace').strip()[:40]}")
                 continue
-            seconds, peak, code, _ = measured([chosen.program, command], source, chosen.runs)
+            seconds, peak, code, _ = measured([chosen.program, *command.split()], source, chosen.runs)
             other = measured(["sha256sum"], source, chosen.runs)[0]
             times[name] = seconds
             ratio = seconds / other if other else 0
-            line = f"{name:22} {command:8} {size:7.1f} {seconds:8.3f} {other:7.3f} {ratio:6.2f} {peak:6.0f} {code}"
+            line = f"{name:22} {command:11} {size:7.1f} {seconds:8.3f} {other:7.3f} {ratio:6.2f} {peak:6.0f} {code}"
             print(line + compared(chosen, command, source, seconds, peak - size), flush=True)
     for one, other in PAIRS:
         if times.get(one) and times.get(other):

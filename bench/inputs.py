@@ -200,7 +200,7 @@ def entry_bytes(entry, kind):
 
 
 class Sectors:
-    """Sectors of so many bytes and the table that links them, in file order or shuffled."""
+    """Sectors of so many bytes and the table that links them, in file order, falling or shuffled."""
 
     def __init__(self, size):
         self.chains, self.size = [], size
@@ -219,7 +219,9 @@ class Sectors:
                 break
             fats, difats = need, more
         places = list(range(fats + difats, total + fats + difats))
-        if shuffled:
+        if shuffled == "falling":
+            places.reverse()
+        elif shuffled:
             random.Random(4).shuffle(places)
         return counts, places, fats, difats
 

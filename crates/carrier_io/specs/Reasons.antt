@@ -1,12 +1,11 @@
 -- The reasons as numbers and names, and a fault as the pair of its number and its offset.
 use Rattle.std.specs.Prelude.{ℕ, List, codes, Option, Some, None, Result, Ok, Err}
 use Rattle.carrier_io.specs.declared.reasons.Reason.{Reason}
-use Rattle.carrier_io.specs.declared.reasons.Reason.TheVariants.{NotACarrier, NotBuilt, InputTooLong, TooDeep, BadFileSignature, BadVersion, BadHeader, BadFatCount, SectorOutOfRange, Cycle, Shared, ShortChain, FileTruncated, BadEntryType, BadName, EntryShared, EntryOutOfRange, DoubleName, StorageTooDeep, BadGuidIndex, BadNameOffset, BadNameLength, DoubleId, BadPropertyIndex, BadPropStream, UnknownType, UnmappedId, MissingStream, BadElement, DuplicateProperty, MissingProperties, MissingStorage, StoreTooDeep, StoreIsMessage, BadSignature, BadLevel, Truncated, BadSum, ListTruncated, UnknownListType, BadNameKind, BadNameSize, BadCount, BadSize, DuplicateListProperty, NoAttachment, DoubleAttribute, BadInterface, NoTnefPart, NotBase64, BadBase64, BadPadding, BadBoundary, BadHeaderLine, PartTooDeep, MissingClose}
+use Rattle.carrier_io.specs.declared.reasons.Reason.TheVariants.{NotACarrier, InputTooLong, TooDeep, BadFileSignature, BadVersion, BadHeader, BadFatCount, SectorOutOfRange, Cycle, Shared, ShortChain, FileTruncated, BadEntryType, BadName, EntryShared, EntryOutOfRange, DoubleName, StorageTooDeep, BadGuidIndex, BadNameOffset, BadNameLength, DoubleId, BadPropertyIndex, BadPropStream, UnknownType, UnmappedId, MissingStream, BadElement, DuplicateProperty, MissingProperties, MissingStorage, StoreTooDeep, StoreIsMessage, BadSignature, BadLevel, Truncated, BadSum, ListTruncated, UnknownListType, BadNameKind, BadNameSize, BadCount, BadSize, DuplicateListProperty, NoAttachment, DoubleAttribute, BadInterface, NoTnefPart, NotBase64, BadBase64, BadPadding, BadBoundary, BadHeaderLine, PartTooDeep, MissingClose}
 use Rattle.carrier_io.specs.declared.reasons.Fault.{Fault}
 
 abbrev pub number_of : Reason → ℕ
 number_of NotACarrier = 1
-number_of NotBuilt = 2
 number_of InputTooLong = 3
 number_of TooDeep = 4
 number_of BadFileSignature = 10
@@ -64,7 +63,6 @@ number_of MissingClose = 92
 
 abbrev pub name_of : Reason → List ℕ
 name_of NotACarrier = codes "NotACarrier"
-name_of NotBuilt = codes "NotBuilt"
 name_of InputTooLong = codes "InputTooLong"
 name_of TooDeep = codes "TooDeep"
 name_of BadFileSignature = codes "BadFileSignature"

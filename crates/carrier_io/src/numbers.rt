@@ -1,5 +1,5 @@
 //! A list of numbers.
-ghost use Rattle.std.specs.Prelude.{◌≡◌, ◌<◌, ℕ, [], ◌∷◌, ◌++◌, length, OnOk, OnErr, slice_get, Some};
+ghost use Rattle.std.specs.Prelude.{◌≡◌, ◌<◌, ℕ, [], ◌∷◌, ◌++◌, length, IfOk, OnOk, OnErr, slice_get, Some};
 
 use crate::failures::NoMemory;
 use std::alloc::Global;
@@ -26,6 +26,15 @@ impl Numbers {
         Numbers {
             list: Vec::new(alloc),
         }
+    }
+
+    /// An empty list with room for so many numbers.
+    pub fn with_capacity(alloc: Global, capacity: usize) -> Result<Numbers, NoMemory>
+        ensures { IfOk result (λ list. list ≡ []) }
+    {
+        Ok(Numbers {
+            list: Vec::with_capacity(alloc, capacity)?,
+        })
     }
 
     pub fn push(&mut self, item: u64) -> Result<(), NoMemory>

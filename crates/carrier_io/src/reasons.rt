@@ -11,15 +11,13 @@ use std::alloc::{AllocError, AllocFailed};
 pub enum Reason {
     /// The input begins with neither signature; at 0.
     NotACarrier,
-    /// A form that this version does not read yet.
-    NotBuilt,
     /// More than 268,435,456 bytes were given; at that number.
     InputTooLong,
     /// A message of level 33; at the property that embeds it.
     TooDeep,
     /// A compound file without its signature; at 0.
     BadFileSignature,
-    /// A major version other than 3; at 26.
+    /// A major version other than 3 and 4; at 26.
     BadVersion,
     /// A header field with another value than the format fixes; at the field.
     BadHeader,
@@ -130,7 +128,6 @@ impl Reason {
     {
         match self {
             Reason::NotACarrier => 1,
-            Reason::NotBuilt => 2,
             Reason::InputTooLong => 3,
             Reason::TooDeep => 4,
             Reason::BadFileSignature => 10,
@@ -194,7 +191,6 @@ impl Reason {
     {
         match self {
             Reason::NotACarrier => "NotACarrier",
-            Reason::NotBuilt => "NotBuilt",
             Reason::InputTooLong => "InputTooLong",
             Reason::TooDeep => "TooDeep",
             Reason::BadFileSignature => "BadFileSignature",

@@ -6,6 +6,7 @@ pub mod LookupLaws
 pub mod NameLaws
 pub mod OpenLaws
 pub mod OutlineLaws
+pub mod RisingLaws
 pub mod SpelledLaws
 pub mod TreeLaws
 pub mod WalkLaws

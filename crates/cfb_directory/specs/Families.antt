@@ -2,7 +2,7 @@
 use Rattle.std.specs.Prelude.{ℕ, List, [], ◌∷◌, get_or, map, Option, None, Some, nat_eq, if◌then◌else◌}
 use Rattle.std.specs.declared.alloc.Global.{Global}
 use Rattle.std.specs.declared.boxed.Box.{Box}
-use Rattle.cfb_directory.specs.Named.{found}
+use Rattle.cfb_directory.specs.ByName.{child_found}
 use Rattle.cfb_directory.specs.Spelled.{names_in}
 use Rattle.cfb_directory.specs.declared.family.Family.{Family}
 use Rattle.cfb_directory.specs.declared.family.Kin.{Kin}
@@ -15,11 +15,11 @@ kids_in (Some kin) = kin.value.children.items
 
 abbrev pub index_in : Option (Box Kin Global) → List ℕ → Option ℕ
 index_in None q = None
-index_in (Some kin) q = found kin.value.index q
+index_in (Some kin) q = child_found kin.value.named kin.value.children.items q
 
 abbrev pub spelled_in : Option (Box Kin Global) → List (List ℕ)
 spelled_in None = []
-spelled_in (Some kin) = names_in kin.value.names
+spelled_in (Some kin) = names_in kin.value.named.names
 
 -- the same of a family
 abbrev pub kids_of : Family → List ℕ

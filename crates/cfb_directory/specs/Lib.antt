@@ -1,8 +1,11 @@
+pub mod ByName
 pub mod Families
 pub mod Found
 pub mod Named
 pub mod Nodes
+pub mod Opened
 pub mod Outlines
+pub mod Rising
 pub mod Shapes
 pub mod Shown
 pub mod Spelled

@@ -7,8 +7,8 @@ ghost use Rattle.cfb_directory.specs.Families.{kids_of, index_of, names_of};
 ghost use Rattle.cfb_directory.specs.Named.{key_of, first_named, name_at};
 ghost use Rattle.cfb_directory.specs.Walks.{directory_of};
 
-use crate::names::{NameIndex, Named, index_names};
-use crate::spelled::Names;
+use crate::named::Named;
+use crate::siblings::name_siblings;
 use carrier_io::{NoMemory, Stop};
 use cfb_sectors::Sectors;
 use std::alloc::Global;
@@ -17,8 +17,7 @@ use std::alloc::Global;
 #[derive(Drop)]
 pub struct Kin {
     pub children: Vec<u32>,
-    pub index: NameIndex,
-    pub names: Names,
+    pub named: Named,
 }
 
 /// The children of an entry, which take no room where there are none. A stream has none.
@@ -53,7 +52,7 @@ impl Family {
     {
         match &self.kin {
             None => None,
-            Some(kin) => kin.index.get(units),
+            Some(kin) => kin.named.child(&kin.children, units),
         }
     }
 
@@ -64,12 +63,13 @@ impl Family {
     {
         match &self.kin {
             None => &[],
-            Some(kin) => kin.names.get(k),
+            Some(kin) => kin.named.names.get(k),
         }
     }
 
-    /// Appends a child, which is not indexed.
+    /// Appends a child to those without names.
     pub fn push(&mut self, alloc: Global, id: u32) -> Result<(), NoMemory>
+        requires { names_of self.old ≡ [] }
         ensures kids { OnOk result (kids_of self.new ≡ kids_of self.old ++ id ∷ []) }
         ensures index { OnOk result ((q : List ℕ) → index_of self.new q ≡ index_of self.old q) }
         ensures names { OnOk result (names_of self.new ≡ names_of self.old) }
@@ -84,8 +84,7 @@ impl Family {
             alloc,
             Kin {
                 children,
-                index: NameIndex::new(alloc),
-                names: Names::new(alloc),
+                named: Named::new(alloc),
             },
         )?);
         Ok(())
@@ -101,9 +100,7 @@ impl Family {
         ensures spelled { OnOk result (names_of self.new ≡ map (name_at (directory_of sectors.now)) (kids_of self.old)) }
     {
         if let Some(kin) = &mut self.kin {
-            let Named { index, names } = index_names(alloc, sectors, &kin.children)?;
-            kin.index = index;
-            kin.names = names;
+            kin.named = name_siblings(alloc, sectors, &kin.children)?;
         }
         Ok(())
     }

@@ -3,7 +3,8 @@ ghost use Rattle.std.specs.Prelude.{◌≡◌, ◌<◌, ◌≤◌, ℕ, List, tr
 ghost use Rattle.cfb_sectors.specs.States.{entries};
 ghost use Rattle.cfb_directory.specs.Families.{family_at, index_at, names_at};
 ghost use Rattle.cfb_directory.specs.Named.{first_named, are_apart, key_of, name_at};
-ghost use Rattle.cfb_directory.specs.Shapes.{deepest};
+ghost use Rattle.cfb_directory.specs.Opened.{IsOpened};
+ghost use Rattle.cfb_directory.specs.Shapes.{deepest, shape, table_of};
 ghost use Rattle.cfb_directory.specs.Trees.{ends};
 ghost use Rattle.cfb_directory.specs.Walks.{directory_of};
 
@@ -26,4 +27,5 @@ pub struct Files<'a> {
     ghost spelled: { (p : ℕ) → p < vec_len families → names_at families.items p ≡ map (name_at (directory_of sectors)) (family_at families.items p) },
     ghost apart: { (p : ℕ) → are_apart (key_of (directory_of sectors)) (family_at families.items p) ≡ true },
     ghost deep: { (id : ℕ) → ends (family_at families.items) deepest id ≡ true },
+    ghost opened: { ∥ IsOpened (shape (table_of sectors streams.numbers.items streams.views.items families.items)) ∥₁ },
 }

@@ -9,6 +9,7 @@ ghost use Rattle.cfb_sectors.specs.Seen.{stream as stream_seen};
 ghost use Rattle.cfb_sectors.specs.States.{entry_of};
 ghost use Rattle.cfb_directory.specs.Families.{family_at};
 ghost use Rattle.cfb_directory.specs.Named.{first_named, key_of};
+ghost use Rattle.cfb_directory.specs.Opened.{IsOpened};
 ghost use Rattle.cfb_directory.specs.Shown.{files, table_in};
 ghost use Rattle.cfb_directory.specs.Walks.{directory_of};
 ghost use Rattle.cfb_directory.specs.Found.{IsThere, storage_seen, child_seen, children_list, child_stream};
@@ -33,10 +34,11 @@ pub struct Child<'f> {
 }
 
 impl<'a> Files<'a> {
-    /// The storage that all others are in [MS-CFB 2.6.2].
+    /// The storage that all others are in [MS-CFB 2.6.2]. The files are those of some bytes.
     pub fn root(&self) -> StorageId
         ensures seen { storage_seen self.now result ≡ files self.now }
         ensures there { IsThere self.now result }
+        ensures opened { ∥ IsOpened (files self.now) ∥₁ }
     {
         StorageId { entry: ROOT }
     }

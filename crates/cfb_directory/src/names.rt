@@ -1,16 +1,14 @@
 //! Names of entries, and the children of a storage by them.
-ghost use Rattle.std.specs.Prelude.{◌≡◌, ◌<◌, ℕ, List, [], None, Some, IfOk, IsSome, All, cond, map, nat_eq};
+ghost use Rattle.std.specs.Prelude.{◌≡◌, ◌<◌, ℕ, List, [], None, Some, IfOk, IsSome, All, cond, nat_eq};
 ghost use Rattle.std.specs.Char.{to_ascii_lowercase};
 ghost use Rattle.std.specs.Cmp.Lexicographic.{pointwise};
 ghost use Rattle.carrier_model.specs.Files.{name_of, folded, family_names};
 ghost use Rattle.carrier_io.specs.Reads.{Gives};
 ghost use Rattle.cfb_sectors.specs.States.{entries};
 ghost use Rattle.cfb_sectors.specs.Views.{entry as entry_seen};
-ghost use Rattle.cfb_directory.specs.Named.{found, key_of, first_named, name_at};
-ghost use Rattle.cfb_directory.specs.Spelled.{names_in};
+ghost use Rattle.cfb_directory.specs.Named.{found, key_of, first_named};
 ghost use Rattle.cfb_directory.specs.Walks.{directory_of};
 
-use crate::spelled::Names;
 use carrier_io::{Fault, NoMemory, Reason, Stop};
 use cfb_sectors::{Entry, Sectors};
 use std::alloc::{AllocError, Global};
@@ -20,13 +18,6 @@ use std::collections::BTreeMap;
 #[derive(Drop)]
 pub struct NameIndex {
     ids: BTreeMap<Vec<u16>, u32>,
-}
-
-/// The children of a storage by name, and their names in sibling order.
-#[derive(Drop)]
-pub struct Named {
-    pub index: NameIndex,
-    pub names: Names,
 }
 
 /// A unit, in lower case where it is an ASCII letter.
@@ -84,16 +75,18 @@ impl NameIndex {
     }
 }
 
-/// The children of a storage by name, and their names, for their entries' numbers in sibling order. DoubleName at the first entry whose
-/// name an earlier one has, up to the case of ASCII letters.
-pub fn index_names(alloc: Global, sectors: &Sectors<'_>, family: &[u32]) -> Result<Named, Stop>
+/// The children of a storage by name, for their entries' numbers in sibling order. DoubleName at the first entry whose name an
+/// earlier one has, up to the case of ASCII letters.
+pub fn index_children(
+    alloc: Global,
+    sectors: &Sectors<'_>,
+    family: &[u32],
+) -> Result<NameIndex, Stop>
     requires { All (λ n. n < entries sectors.now) family.now }
     ensures answer { Gives (λ _. tt) result (family_names (directory_of sectors.now) family.now []) }
-    ensures named { IfOk result (λ n. (q : List ℕ) → found n.index q ≡ first_named (key_of (directory_of sectors.now)) q family.now) }
-    ensures spelled { IfOk result (λ n. names_in n.names ≡ map (name_at (directory_of sectors.now)) family.now) }
+    ensures named { IfOk result (λ index. (q : List ℕ) → found index q ≡ first_named (key_of (directory_of sectors.now)) q family.now) }
 {
     let mut index = NameIndex::new(alloc);
-    let mut names = Names::new(alloc);
     for id in family {
         let entry = sectors.entry(*id);
         if !index.insert(alloc, name(&entry), *id)? {
@@ -102,7 +95,6 @@ pub fn index_names(alloc: Global, sectors: &Sectors<'_>, family: &[u32]) -> Resu
                 offset: sectors.entry_offset(*id),
             }));
         }
-        names.push(name(&entry))?;
     }
-    Ok(Named { index, names })
+    Ok(index)
 }

@@ -54,4 +54,10 @@ impl Names {
         let span = self.spans[k];
         &self.units[span.start..span.start + span.len]
     }
+    /// How many names there are.
+    pub fn len(&self) -> usize
+        ensures { result ≡ length (names_in self.now) }
+    {
+        self.spans.len()
+    }
 }

@@ -98,7 +98,8 @@ impl<'t, B: Blob> FileList<'t, B> {
 
     /// How many storages there are, with the root.
     pub fn count(&self) -> usize
-        ensures { result ≡ length self.now.storages }
+        ensures count { result ≡ length self.now.storages }
+        ensures some { 0 < result }
     {
         self.storages.len()
     }

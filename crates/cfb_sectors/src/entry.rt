@@ -26,6 +26,7 @@ pub struct Entry {
 }
 
 /// The units of a name's field.
+#[inline(always)]
 fn read_units(bytes: &[u8], at: usize) -> [u16; 32]
     requires { at + 64 ≤ length bytes.now }
     ensures { result ≡ map (λ k. u16_of bytes.now (at + 2 * k)) (range_with_len 0 32) }
@@ -38,6 +39,7 @@ fn read_units(bytes: &[u8], at: usize) -> [u16; 32]
 }
 
 /// The sixteen bytes at a place.
+#[inline(always)]
 pub fn read_class(bytes: &[u8], at: usize) -> [u8; 16]
     requires { at + 16 ≤ length bytes.now }
     ensures { result ≡ take 16 (drop at bytes.now) }
@@ -62,7 +64,8 @@ fn read_size(bytes: &[u8], size: u32, at: usize) -> u64
     }
 }
 
-/// The entry whose first byte is at a place, in a file with sectors of this size.
+/// The entry whose first byte is at a place, in a file with sectors of this size. What a caller does not use is not read.
+#[inline(always)]
 pub fn read_entry(bytes: &[u8], size: u32, at: usize) -> Entry
     requires { at + 128 ≤ length bytes.now }
     ensures { entry result ≡ entry_at size bytes.now at }

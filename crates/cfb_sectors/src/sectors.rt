@@ -107,6 +107,7 @@ impl<'a> Sectors<'a> {
     }
 
     /// An entry of the directory [MS-CFB 2.6.1].
+    #[inline(always)]
     pub fn entry(&self, id: u32) -> Entry
         requires { id < entries self.now }
         ensures { entry result ≡ entry_of self.now id }

@@ -121,34 +121,69 @@ fn faults(rt: HostRuntime) -> Result<(), Fail> {
 }
 
 #[test]
-fn streams(rt: HostRuntime) -> Result<(), Fail> {
+fn tables(rt: HostRuntime) -> Result<(), Fail> {
     let file = small_file(rt.alloc())?;
-    assert_eq!(rt; file.len(), 3072);
+    let bytes = file.as_slice();
+    if bytes.len() > 3072 {
+        return Err("too long")?;
+    }
     let mut walk = Walk::new();
-    let mut sectors = Sectors::load(rt.alloc(), &file, &mut walk)?;
+    let sectors = Sectors::load(rt.alloc(), bytes, &mut walk)?;
     assert_eq!(rt; walk.count(), 4);
     assert_eq!(rt; sectors.entries(), 8);
-    assert_eq!(rt; sectors.entry(5).size, 32);
-    assert_eq!(rt; sectors.entry_offset(5), 1664);
     assert_eq!(rt; sectors.table().len(), 128);
     assert_eq!(rt; sectors.mini_table().len(), 128);
+    Ok(())
+}
+
+/// Fields of a view: a byte, numbers of three, two, four and eight bytes, and a place in the file.
+fn fields(view: &StreamView<'_>) -> Result<[u64; 6], Fail> {
+    if view.len() != 32 {
+        return Err("a length")?;
+    }
+    Ok([
+        u64::from(view.byte(1)),
+        view.number(1, 3),
+        u64::from(view.u16_at(1)),
+        u64::from(view.u32_at(0)),
+        view.u64_at(2),
+        file_offset(view, 1) as u64,
+    ])
+}
+
+/// The lengths of parts of a view, and how many pieces its front has.
+fn parts(view: &StreamView<'_>) -> Result<[usize; 4], Fail> {
+    if view.len() != 32 {
+        return Err("a length")?;
+    }
+    let first = view.prefix(2)?;
+    Ok([
+        view.rest(30).len(),
+        view.copy()?.len(),
+        first.len(),
+        first.pieces(),
+    ])
+}
+
+#[test]
+fn streams(rt: HostRuntime) -> Result<(), Fail> {
+    let file = small_file(rt.alloc())?;
+    let bytes = file.as_slice();
+    if bytes.len() > 3072 {
+        return Err("too long")?;
+    }
+    let mut walk = Walk::new();
+    let mut sectors = Sectors::load(rt.alloc(), bytes, &mut walk)?;
+    if sectors.entries() < 6 {
+        return Err("no entry")?;
+    }
+    assert_eq!(rt; sectors.entry(5).size, 32);
+    assert_eq!(rt; sectors.entry_offset(5), 1664);
     let view = sectors.claim(rt.alloc(), 5, &mut walk)?;
     assert_eq!(rt; walk.count(), 5);
-    assert_eq!(rt; view.len(), 32);
-    assert_eq!(rt; file_offset(&view, 1), 2561);
-    assert_eq!(rt; view.byte(1), 2);
-    assert_eq!(rt; view.number(1, 3), 0x04_0302);
-    assert_eq!(rt; view.u16_at(1), 0x0302);
-    assert_eq!(rt; view.u32_at(0), 0x0403_0201);
-    assert_eq!(rt; view.u64_at(2), 0x0403);
-    assert_eq!(rt; view.rest(30).len(), 2);
-    let copy = view.copy()?;
-    assert_eq!(rt; copy.len(), 32);
-    let first = view.prefix(2)?;
-    assert_eq!(rt; first.len(), 2);
-    assert_eq!(rt; first.pieces(), 1);
-    let empty = StreamView::empty(rt.alloc());
-    assert_eq!(rt; empty.len(), 0);
+    assert_eq!(rt; fields(&view)?, [2, 0x04_0302, 0x0302, 0x0403_0201, 0x0403, 2561]);
+    assert_eq!(rt; parts(&view)?, [2, 32, 2, 1]);
+    assert_eq!(rt; StreamView::empty(rt.alloc()).len(), 0);
     Ok(())
 }
 

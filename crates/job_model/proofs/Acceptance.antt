@@ -16,7 +16,7 @@ use Rattle.tnef_model.proofs.Stream.{parts_of}
 use Rattle.tnef_model.proofs.TnefMessage.{message_exact}
 
 -- a stream that means something is signed
-signed : (b : List ℕ) (m : Meaning) → TnefCarrier b m.message m.passed → is_signed b ≡ true
+pub signed : (b : List ℕ) (m : Meaning) → TnefCarrier b m.message m.passed → is_signed b ≡ true
 unfolding message_within
 signed b m p = (passing (head_tests 0 b) (parts_of 0 b p.attrs p.there).head).0
 

@@ -1,3 +1,9 @@
 pub mod Acceptance
+pub mod LayoutSizes
 pub mod Results
+pub mod SampleLimits
+pub mod SampleLists
+pub mod SampleParts
+pub mod SampleSizes
+pub mod TakenOn
 pub mod WithinLimits

@@ -1,10 +1,10 @@
 -- What is made anew for a message that was accepted carries it, and no other.
-use Rattle.std.proofs.Common.{◌≡◌, ℕ, ◌≤◌, List, [], length, Bool, true, false, refl, None, ap}
+use Rattle.std.proofs.Common.{◌≡◌, ℕ, ◌≤◌, List, [], length, Bool, true, false, refl, None}
 use Rattle.carrier_model.specs.Bytes.{AllBytes, MOST_BYTES}
 use Rattle.carrier_model.specs.Limits.{first_limit, msg_limits}
 use Rattle.carrier_model.specs.Meanings.{Meaning}
 use Rattle.carrier_model.specs.Sectors.{is_size}
-use Rattle.carrier_model.specs.Tree.{Message, GREATEST_LEVEL}
+use Rattle.carrier_model.specs.Tree.{GREATEST_LEVEL}
 use Rattle.carrier_model.specs.Trees.{IsTree}
 use Rattle.std.specs.Prelude.{IsTrue, ◌++◌}
 use Rattle.job_model.specs.Acceptance.{Accepts, Carries, MessageBy}

@@ -18,7 +18,7 @@ use Rattle.job_model.specs.Commands.{to_tnef}
 use Rattle.tnef_model.specs.TnefCanonical.{tnef_of}
 use Rattle.tnef_model.proofs.CanonicalTnef.{tree_means}
 
-not_passed : (most n : ℕ) (limit : Limit) (others : List Limit) → first_limit (where_passed (nat_lt most n) limit ++ others) ≡ None → (n ≤ most) × (first_limit others ≡ None)
+pub not_passed : (most n : ℕ) (limit : Limit) (others : List Limit) → first_limit (where_passed (nat_lt most n) limit ++ others) ≡ None → (n ≤ most) × (first_limit others ≡ None)
 not_passed most n limit others h = by (nat_lt most n) refl h
   where
     by : (b : Bool) → nat_lt most n ≡ b → first_limit (where_passed b limit ++ others) ≡ None → (n ≤ most) × (first_limit others ≡ None)

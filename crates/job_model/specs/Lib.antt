@@ -1,9 +1,8 @@
 pub mod Acceptance
+pub mod Changes
 pub mod Commands
 pub mod ReasonNames
 pub mod ReportTexts
-pub mod SampleTrees
+pub mod SampleTexts
 pub mod Signatures
 pub mod Targets
-pub mod TreeTexts
-pub mod ValueTexts

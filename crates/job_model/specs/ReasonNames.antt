@@ -4,7 +4,7 @@ use Rattle.carrier_model.specs.Lists.{looked_up}
 
 abbrev pub reason_names : List (ℕ × List ℕ)
 reason_names =
-    (1, codes "NotACarrier") ∷ (2, codes "NotBuilt") ∷ (3, codes "InputTooLong") ∷ (4, codes "TooDeep") ∷
+    (1, codes "NotACarrier") ∷ (3, codes "InputTooLong") ∷ (4, codes "TooDeep") ∷
     (10, codes "BadFileSignature") ∷ (11, codes "BadVersion") ∷ (12, codes "BadHeader") ∷
     (13, codes "BadFatCount") ∷ (14, codes "SectorOutOfRange") ∷ (15, codes "Cycle") ∷ (16, codes "Shared") ∷
     (17, codes "ShortChain") ∷ (18, codes "FileTruncated") ∷ (25, codes "BadEntryType") ∷ (26, codes "BadName") ∷

@@ -1,14 +1,16 @@
 -- How a command ends, and the one line that tells it.
 use Rattle.std.specs.Prelude.{ℕ, List, [], ◌++◌, unwrap_or, codes, decimal}
 use Rattle.carrier_model.specs.Limits.{Limit, too_many_names, too_many_recipients, too_many_attachments, too_large}
+use Rattle.job_model.specs.Changes.{Snag, snag_text, snag_code}
 use Rattle.job_model.specs.ReasonNames.{reason_name}
-use Rattle.job_model.specs.TreeTexts.{line, counted}
+use Rattle.text_model.specs.TreeTexts.{line, counted}
 use Rattle.carrier_model.specs.Trail.{Fault}
 
 pub data Ending : Type 0 where
   done : Ending
   refused : (fault : Fault) → Ending
   wrong_words : Ending
+  stuck : (snag : Snag) → Ending
   unfit : (limit : Limit) → Ending
   read_fault : Ending
   write_fault : Ending
@@ -28,7 +30,8 @@ limit_text (too_large n) = counted (codes "unfit Size") n
 abbrev pub report_text : Ending → List ℕ
 report_text done = []
 report_text (refused g) = line 0 (fault_text g)
-report_text wrong_words = line 0 (codes "usage: show, check, to-msg, to-msg4, to-tnef, wrap, unwrap, or sample N")
+report_text wrong_words = line 0 (codes "usage: show, check, to-msg, to-msg4, to-tnef, wrap, unwrap, to-unicode, to-json, from-json, edit EDITS, or sample N")
+report_text (stuck snag) = line 0 (snag_text snag)
 report_text (unfit limit) = line 0 (limit_text limit)
 report_text read_fault = line 0 (codes "read fault")
 report_text write_fault = line 0 (codes "write fault")
@@ -39,6 +42,7 @@ abbrev pub exit_code : Ending → ℕ
 exit_code done = 0
 exit_code (refused g) = 1
 exit_code wrong_words = 2
+exit_code (stuck snag) = snag_code snag
 exit_code (unfit limit) = 3
 exit_code read_fault = 4
 exit_code write_fault = 5

@@ -3,7 +3,9 @@ ghost use Rattle.std.specs.Prelude.{◌≡◌, ℕ, List, [], None};
 ghost use Rattle.job_model.specs.Acceptance.{Accepts, FaultOf, Carries};
 ghost use Rattle.job_model.specs.Commands.{to_msg, to_msg4, to_tnef, wrap};
 ghost use Rattle.msg_model.specs.MsgMessage.{MsgCarrier};
-ghost use Rattle.job_model.specs.Targets.{passed_limit};
+ghost use Rattle.job_model.specs.Targets.{IsResult, passed_limit};
+ghost use Rattle.json_model.specs.JsonMeanings.{TextMeansTree};
+ghost use Rattle.json_model.specs.MessageForms.{json_text};
 ghost use Rattle.tnef_model.specs.TnefCanonical.{tnef_of};
 ghost use Rattle.tnef_model.specs.TnefMessage.{TnefCarrier};
 ghost use Rattle.carrier_model.specs.Bytes.{AllBytes};
@@ -39,4 +41,10 @@ pub fn results_carry_their_message()
     ensures to_msg { (b : List ℕ) (m : Meaning) → AllBytes b → Accepts to_msg b m → passed_limit to_msg m.message b ≡ None → Carries to_msg (msg_of m.message) m }
     ensures to_msg4 { (b : List ℕ) (m : Meaning) → AllBytes b → Accepts to_msg4 b m → passed_limit to_msg4 m.message b ≡ None → Carries to_msg4 (msg4_of m.message) m }
     ensures to_tnef { (b : List ℕ) (m : Meaning) → AllBytes b → Accepts to_tnef b m → passed_limit to_tnef m.message b ≡ None → Carries to_tnef (tnef_of m.message) m }
+{}
+
+/// What `from-json` writes of the text that `to-json` wrote of a message is what `to-msg` writes of the message: the text
+/// means the message, and no other.
+pub fn json_texts_give_the_file()
+    ensures { (b w v : List ℕ) (t u : Message) → TextMeansTree (json_text t) t → TextMeansTree (json_text t) u → IsResult to_msg u (json_text t) w → IsResult to_msg t b v → w ≡ v }
 {}

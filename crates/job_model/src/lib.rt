@@ -3,13 +3,12 @@
 #![tactic(auto)]
 
 mod job_laws;
+mod sample_laws;
 mod text_rows;
 
 pub use job_laws::{
-    files_within_the_limits_carry_their_message, jobs_are_exact, results_carry_their_message,
-    trees_within_the_limits_are_carried,
+    files_within_the_limits_carry_their_message, jobs_are_exact, json_texts_give_the_file,
+    results_carry_their_message, trees_within_the_limits_are_carried,
 };
-pub use text_rows::{
-    commands_by_their_words, lines_of_ends, texts_of_one_property, the_first_sample,
-    the_text_of_a_store,
-};
+pub use sample_laws::{no_sample_passes_a_limit, samples_are_trees};
+pub use text_rows::{commands_by_their_words, lines_of_ends, the_first_sample};

@@ -197,7 +197,7 @@ text_bytes bytes all k =
     ]
 
 -- two lists of bytes with one text are equal
-one_text : (e : GeneralPurpose) → IsStandard e → (x y : List ℕ) → AllBytes x → AllBytes y → base64_text x ≡ base64_text y → y ≡ x
+pub one_text : (e : GeneralPurpose) → IsStandard e → (x y : List ℕ) → AllBytes x → AllBytes y → base64_text x ≡ base64_text y → y ≡ x
 one_text e standard x y xb yb same =
     let strict = IsStrict-standard e standard in
     let first = (decode_of_iff e (base64_text x) x strict (text_bytes x xb) xb).1 (sym (encode_of-is e x standard)) in

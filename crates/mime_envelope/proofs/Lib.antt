@@ -3,7 +3,9 @@ pub mod Characters
 pub mod Coded
 pub mod Kept
 pub mod Cuts
+pub mod Pieces
 pub mod Quoted
 pub mod Readings
 pub mod Searches
+pub mod Shorter
 pub mod Texts

@@ -1,14 +1,15 @@
 //! base64 with the standard alphabet and full padding.
-ghost use Rattle.std.specs.Prelude.{◌≡◌, ℕ, ◌+◌, ◌*◌, ◌/◌, ◌≤◌, List, take, length, IfOk, IfSome, IfNone};
-ghost use Rattle.carrier_model.specs.Bytes.{AllBytes};
+ghost use Rattle.std.specs.Prelude.{◌≡◌, ◌+◌, ◌*◌, ◌/◌, ◌≤◌, take, length, IfOk};
 ghost use Rattle.mail_model.specs.Base64.{base64_text};
 ghost use Rattle.mime_envelope.specs.Engine.{IsStandard};
+ghost use Rattle.mime_envelope.specs.Parts.{IsPiece};
 
-use base64::DecodeAllocError;
 use base64::alphabet::Alphabet;
 use base64::engine::general_purpose::{GeneralPurpose, GeneralPurposeConfig};
 use carrier_io::NoMemory;
-use std::alloc::Global;
+
+/// How many characters are decoded together, a whole number of groups of four.
+pub const PIECE: usize = 4096;
 
 /// Codes and decodes base64.
 #[derive(Clone, Copy, Debug)]
@@ -42,16 +43,23 @@ impl Coder {
         size
     }
 
-    /// The bytes that a text codes, if it codes any.
-    pub fn decode(&self, alloc: Global, text: &[u8]) -> Result<Option<Vec<u8>>, NoMemory>
-        ensures coded { IfOk result (λ o. IfSome o (λ v. AllBytes v.items × (text.now ≡ base64_text v.items))) }
-        ensures only { IfOk result (λ o. IfSome o (λ v. (p : List ℕ) → AllBytes p → text.now ≡ base64_text p → p ≡ v.items)) }
-        ensures none { IfOk result (λ o. IfNone o ((p : List ℕ) → AllBytes p → text.now ≡ base64_text p → ⊥)) }
+    /// Appends the bytes that a piece of a text codes, and says whether it codes any there.
+    pub fn decode_piece(&self, piece: &[u8], payload: &mut Vec<u8>) -> Result<bool, NoMemory>
+        requires { length piece.now ≤ 4096 }
+        ensures { IfOk result (λ good. IsPiece good payload.old.items piece.now payload.new.items) }
     {
-        match self.engine.decode(alloc, text) {
-            Ok(bytes) => Ok(Some(bytes)),
-            Err(DecodeAllocError::DecodeError(_)) => Ok(None),
-            Err(DecodeAllocError::OutOfMemory) => Err(NoMemory),
+        if piece.is_empty() {
+            return Ok(true);
         }
+        // Nothing stands behind padding.
+        if payload.len() % 3 != 0 {
+            return Ok(false);
+        }
+        let mut bytes = [0u8; PIECE / 4 * 3];
+        let Ok(size) = self.engine.decode_slice_unchecked(piece, &mut bytes) else {
+            return Ok(false);
+        };
+        payload.extend_from_slice(&bytes[..size])?;
+        Ok(true)
     }
 }

@@ -1,6 +1,7 @@
 //! The mail envelope of a TNEF stream, both ways.
 #![tactic(auto)]
 
+mod body;
 mod coder;
 mod header;
 mod laws;

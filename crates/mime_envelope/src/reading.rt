@@ -1,16 +1,16 @@
 //! Reading an envelope.
-ghost use Rattle.std.specs.Prelude.{◌≡◌, ℕ, ◌+◌, ◌<◌, ◌≤◌, ◌^◌, ◌||◌, List, length, not, filter, IfOk};
-ghost use Rattle.std.specs.List.{prefix_len, list_all};
+ghost use Rattle.std.specs.Prelude.{◌≡◌, ◌+◌, ◌<◌, ◌≤◌, ◌^◌, ◌||◌, length, IfOk};
+ghost use Rattle.std.specs.List.{list_all};
 ghost use Rattle.carrier_io.specs.Reads.{Gives, Reads};
 ghost use Rattle.carrier_io.specs.Reasons.{refusal};
 ghost use Rattle.mail_model.specs.Envelope as envelope;
-ghost use Rattle.mime_envelope.specs.Parts.{part_view};
+ghost use Rattle.mime_envelope.specs.Parts.{part_view, coded_view};
 
-use crate::coder::Coder;
+use crate::body::{decode_body, is_skipped};
 use crate::part::Part;
 use crate::search::search;
 use crate::text::is_word;
-use carrier_io::{Fault, NoMemory, Reason, Stop};
+use carrier_io::{Fault, Reason, Stop};
 use std::alloc::Global;
 
 /// How many multiparts may stand inside each other.
@@ -18,21 +18,23 @@ const MOST_MULTIPARTS: u8 = 16;
 
 /// The bytes that the first TNEF part of an envelope carries (RFC 2045, RFC 2046), or the envelope's first fault.
 pub fn payload(alloc: Global, bytes: &[u8]) -> Result<Vec<u8>, Stop>
-    ensures { Reads (λ v. v.items) result (envelope.Envelope bytes.now) (envelope.EnvelopeFault bytes.now) }
+    ensures value { Reads (λ v. v.items) result (envelope.Envelope bytes.now) (envelope.EnvelopeFault bytes.now) }
+    ensures short { IfOk result (λ v. length v.items ≤ length bytes.now) }
 {
-    let (end, text) = coded_text(alloc, bytes)?;
-    match Coder::new().decode(alloc, &text)? {
+    let part = coded_part(alloc, bytes)?;
+    match decode_body(alloc, part.body)? {
         Some(payload) => Ok(payload),
         None => Err(Stop::Fault(Fault {
             reason: Reason::BadPadding,
-            offset: end,
+            offset: part.place + part.body.len() as u64,
         })),
     }
 }
 
-/// The base64 text of the first TNEF part, and the offset of its body's end.
-fn coded_text(alloc: Global, bytes: &[u8]) -> Result<(u64, Vec<u8>), Stop>
-    ensures { Gives (λ t. (t.0, t.1.items)) result (envelope.envelope_text bytes.now) }
+/// The first TNEF part; its body is base64 text.
+fn coded_part<'a>(alloc: Global, bytes: &'a [u8]) -> Result<Part<'a>, Stop>
+    ensures value { Gives coded_view result (envelope.envelope_text bytes.now) }
+    ensures within { IfOk result (λ p. p.place + length p.body.now ≤ length bytes.now) }
 {
     let Some(part) = search(alloc, MOST_MULTIPARTS, 0, bytes)? else {
         return Err(Stop::Fault(Fault {
@@ -42,8 +44,7 @@ fn coded_text(alloc: Global, bytes: &[u8]) -> Result<(u64, Vec<u8>), Stop>
     };
     test_encoding(&part)?;
     test_characters(part.place, part.body)?;
-    let text = characters(alloc, part.body)?;
-    Ok((part.place + part.body.len() as u64, text))
+    Ok(part)
 }
 
 /// Whether a part's body is base64.
@@ -66,13 +67,6 @@ fn test_encoding(part: &Part) -> Result<(), Fault>
             }
         }
     }
-}
-
-/// Whether it is a space, a tab or of a line's end.
-fn is_skipped(byte: u8) -> bool
-    ensures { result ≡ envelope.is_skipped byte }
-{
-    byte == b' ' || byte == b'\t' || byte == b'\r' || byte == b'\n'
 }
 
 /// Whether it may stand in base64 text.
@@ -110,32 +104,4 @@ fn test_characters(at: u64, body: &[u8]) -> Result<(), Fault>
         }
     }
     Ok(())
-}
-
-/// How many bytes stand before the first that is skipped, or in all.
-fn count_kept(bytes: &[u8]) -> usize
-    ensures value { result ≡ prefix_len (λ c. not (envelope.is_skipped c)) bytes.now }
-    ensures within { result ≤ length bytes.now }
-{
-    for (i, byte) in bytes.iter().enumerate() {
-        if is_skipped(*byte) {
-            return i;
-        }
-    }
-    bytes.len()
-}
-
-/// A body without what is skipped.
-fn characters(alloc: Global, body: &[u8]) -> Result<Vec<u8>, NoMemory>
-    ensures { IfOk result (λ v. v.items ≡ envelope.characters body.now) }
-{
-    let mut text = Vec::with_capacity(alloc, body.len())?;
-    let mut rest = body;
-    while !rest.is_empty() {
-        let (kept, after) = rest.split_at(count_kept(rest));
-        text.extend_from_slice(kept)?;
-        let (_, behind) = after.split_at(after.len().min(1));
-        rest = behind;
-    }
-    Ok(text)
 }

@@ -56,14 +56,14 @@ fn write_body<W: Sink>(bytes: &[u8], sink: &mut W) -> Result<(), Failed>
     let mut rest = bytes;
     while !rest.is_empty() {
         let (line, after) = rest.split_at(rest.len().min(LINE_BYTES));
-        write_line(coder, line, sink)?;
+        write_line(&coder, line, sink)?;
         rest = after;
     }
     Ok(())
 }
 
 /// Appends a line of the body.
-fn write_line<W: Sink>(coder: Coder, line: &[u8], sink: &mut W) -> Result<(), Failed>
+fn write_line<W: Sink>(coder: &Coder, line: &[u8], sink: &mut W) -> Result<(), Failed>
     requires { length line.now ≤ 57 }
     ensures { Writes (W.held sink.old) (W.held sink.new) (W.faults sink.old) (W.faults sink.new) result (base64_text line.now ++ line_end) }
 {

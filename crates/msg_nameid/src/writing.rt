@@ -27,10 +27,8 @@ impl NameMap {
         requires assigned { IsAssigned self.now }
         ensures { OnOk result (files.new ≡ record files.old { storages = grown files.old.storages 0 (storage NAME_MAP NO_CLASS (name_map_files (names_in self.now)) no_file) }) }
     {
-        // The root is always there.
-        if files.count() == 0 {
-            return Err(NoMemory);
-        }
+        let count = files.count();
+        prove!(count > 0);
         match self.gather(alloc) {
             Ok(streams) => add_gathered(alloc, files, streams),
             Err(NoMemory) => Err(NoMemory),

@@ -93,8 +93,9 @@ fn numbers_in(alloc: Global, view: &StreamView<'_>, width: usize) -> Result<Numb
     ensures list { IfOk result (λ l. l ≡ map le_number (pieces_of width (bytes_of view.now))) }
     ensures fit { IfOk result (λ l. All (λ n. n < 2 ^ (8 * width)) l) }
 {
-    let mut list = Numbers::new(alloc);
-    for k in 0..view.len() / width {
+    let count = view.len() / width;
+    let mut list = Numbers::with_capacity(alloc, count)?;
+    for k in 0..count {
         list.push(number_at(view, width * k, width))?;
     }
     Ok(list)

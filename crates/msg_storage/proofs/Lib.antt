@@ -1,6 +1,8 @@
+pub mod Below
 mod Adding
 mod Apart
 mod Bodies
+mod Carriers
 mod Digits
 mod Found
 mod Messages

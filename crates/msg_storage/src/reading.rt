@@ -241,7 +241,6 @@ pub fn read_msg<'a>(alloc: Global, files: &Files<'a>) -> Result<Accepted<StreamV
     )?;
     match Tree::new(message) {
         Ok(tree) => Ok(Accepted { tree, passed }),
-        // No opened file comes here: its names are short and differ in each storage, so each store is one.
-        Err(_) => Err(Stop::NoMemory),
+        Err(_) => unreachable!(),
     }
 }

@@ -1,51 +1,33 @@
--- Exit codes, and the line of the report.
-use Rattle.std.specs.Prelude.{◌⊎◌, ℕ, List, [], ◌∷◌, ◌++◌, Option, codes, decimal}
+-- How a run ends, as the definitions have it, and the line of the report.
+use Rattle.std.specs.Prelude.{◌⊎◌, ℕ, List, Option}
 use Rattle.std.specs.Io.KnownBytes.{Appends}
 use Rattle.carrier_io.specs.Causes.{Rose}
 use Rattle.carrier_io.specs.Known.{AppendsFront}
-use Rattle.carrier_io.specs.declared.reasons.Fault.{Fault}
-use Rattle.carrier_io.specs.Reasons.{number_of, name_of}
-use Rattle.msg_tree.specs.declared.target_limits.Limit.{Limit}
-use Rattle.msg_tree.specs.declared.target_limits.Limit.TheVariants.{Names, Recipients, Attachments, Size}
+use Rattle.carrier_io.specs.Reasons.{fault_of}
+use Rattle.job_model.specs.ReportTexts.{Ending, done, refused, wrong_words, stuck, unfit, read_fault, write_fault, no_memory, report_text}
+use Rattle.job_model.specs.Changes.{unmapped, undone, no_tree}
+use Rattle.msg_tree.specs.Limiting.{limit_of}
+use Rattle.tree_edit.specs.Meaning.{fault_of as edit_fault_of}
+use Rattle.tree_from_json.specs.Ends.{plain_fault as json_fault_of}
+use Rattle.tree_text8.specs.Meaning.{unmapped_of}
 use Rattle.outlook_cli.specs.declared.status.Status.{Status}
-use Rattle.outlook_cli.specs.declared.status.Status.TheVariants.{Done, Refused, Usage, Unfit, ReadFault, WriteFault, NoMemory}
+use Rattle.outlook_cli.specs.declared.status.Status.TheVariants.{Done, Refused, Usage, Unmapped, Edit, Json, Unfit, ReadFault, WriteFault, NoMemory}
 
-abbrev pub code_of : Status → ℕ
-code_of Done = 0
-code_of (Refused g) = 1
-code_of Usage = 2
-code_of (Unfit limit) = 3
-code_of ReadFault = 4
-code_of WriteFault = 5
-code_of NoMemory = 6
+abbrev pub ending_of : Status → Ending
+ending_of Done = done
+ending_of (Refused g) = refused (fault_of g)
+ending_of Usage = wrong_words
+ending_of (Unmapped at) = stuck (unmapped (unmapped_of at))
+ending_of (Edit at) = stuck (undone (edit_fault_of at))
+ending_of (Json at) = stuck (no_tree (json_fault_of at))
+ending_of (Unfit limit) = unfit (limit_of limit)
+ending_of ReadFault = read_fault
+ending_of WriteFault = write_fault
+ending_of NoMemory = no_memory
 
-abbrev pub refusal_line : Fault → List ℕ
-refusal_line g = codes "refused " ++ (decimal (number_of g.reason) ++ ((codes " " ++ (name_of g.reason ++ codes " at ")) ++ (decimal g.offset ++ 10 ∷ [])))
-
-abbrev pub limit_name : Limit → List ℕ
-limit_name (Names counted) = codes "Names"
-limit_name (Recipients counted) = codes "Recipients"
-limit_name (Attachments counted) = codes "Attachments"
-limit_name (Size counted) = codes "Size"
-
--- the number that passes it
-abbrev pub counted_in : Limit → ℕ
-counted_in (Names counted) = counted
-counted_in (Recipients counted) = counted
-counted_in (Attachments counted) = counted
-counted_in (Size counted) = counted
-
-abbrev pub limit_line : Limit → List ℕ
-limit_line limit = (codes "unfit " ++ (limit_name limit ++ codes " ")) ++ (decimal (counted_in limit) ++ 10 ∷ [])
-
+-- the line of a status, or nothing
 abbrev pub line_of : Status → List ℕ
-line_of Done = []
-line_of (Refused g) = refusal_line g
-line_of Usage = codes "usage: show, check, to-msg, to-msg4, to-tnef, wrap, unwrap, or sample N" ++ 10 ∷ []
-line_of (Unfit limit) = limit_line limit
-line_of ReadFault = codes "read fault" ++ 10 ∷ []
-line_of WriteFault = codes "write fault" ++ 10 ∷ []
-line_of NoMemory = codes "no memory" ++ 10 ∷ []
+line_of s = report_text (ending_of s)
 
 -- all of the bytes were appended, or a front of them and a failure was counted
 abbrev pub Reports : Option (List ℕ) → Option (List ℕ) → ℕ → ℕ → List ℕ → Type 0

@@ -96,9 +96,9 @@ fn values_in_falling_sectors(rt: HostRuntime) -> Result<(), Fail> {
     Ok(())
 }
 
-#[test]
-fn entries_that_are_passed_over(rt: HostRuntime) -> Result<(), Fail> {
-    let mut file = file_of(&rt, "to-msg", &listed(&rt, &FOUR)?)?;
+/// A file with an Object, a property of a type that a list does not keep, an empty text without a stream and two red entries.
+pub(crate) fn with_passed_entries(rt: &HostRuntime) -> Result<Vec<u8>, Fail> {
+    let mut file = file_of(rt, "to-msg", &listed(rt, &FOUR)?)?;
     let entries = [
         (2608, &[0x0d, 0, 0x12, 0x0e, 6, 0, 0, 0, 0][..]),
         (2624, &[0xfb, 0, 0x40, 0x67, 6, 0, 0, 0, 0][..]),
@@ -107,12 +107,20 @@ fn entries_that_are_passed_over(rt: HostRuntime) -> Result<(), Fail> {
         (1664 + 67, &[0][..]),
     ];
     for (at, bytes) in entries {
-        file = changed(&rt, &file, at, bytes)?;
+        file = changed(rt, &file, at, bytes)?;
     }
+    Ok(file)
+}
+
+#[test]
+fn entries_that_are_passed_over(rt: HostRuntime) -> Result<(), Fail> {
     let list = [
         2, 0, 0, 0, 3, 0, 0x17, 0, 2, 0, 0, 0, 0x1f, 0, 0x37, 0, 1, 0, 0, 0, 2, 0, 0, 0, 0, 0, 0, 0,
     ];
-    assert_eq!(rt; file_of(&rt, "to-tnef", &file)?, listed(&rt, &list)?);
+    assert_eq!(rt;
+        file_of(&rt, "to-tnef", &with_passed_entries(&rt)?)?,
+        listed(&rt, &list)?
+    );
     Ok(())
 }
 

@@ -1,9 +1,13 @@
 //! Translates Outlook messages between their carriers.
 #![tactic(auto)]
 
+mod changing;
+mod json;
 mod report;
 mod run;
+mod sampling;
 mod status;
+mod telling;
 mod words;
 
 use carrier_io::{StdSink, StdSource};
@@ -30,6 +34,8 @@ fn main(rt: HostRuntime) -> ExitCode {
 }
 
 #[cfg(test)]
+mod changing_tests;
+#[cfg(test)]
 mod file_tests;
 #[cfg(test)]
 mod layout_tests;
@@ -37,5 +43,7 @@ mod layout_tests;
 mod mail_tests;
 #[cfg(test)]
 mod stream_tests;
+#[cfg(test)]
+mod telling_tests;
 #[cfg(test)]
 mod tests;

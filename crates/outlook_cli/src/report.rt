@@ -1,79 +1,139 @@
 //! The line of the report.
-ghost use Rattle.std.specs.Prelude.{◌≡◌, decimal};
+ghost use Rattle.std.specs.Prelude.{◌≡◌, ◌++◌, ◌∷◌, [], codes};
 ghost use Rattle.carrier_io.specs.Known.{Writes};
-ghost use Rattle.outlook_cli.specs.Report.{line_of, refusal_line, limit_line, limit_name as name_of_limit, counted_in as number_in};
+ghost use Rattle.carrier_io.specs.Reasons.{fault_of};
+ghost use Rattle.edit_model.specs.EditTexts.{edit_text, why_name};
+ghost use Rattle.json_model.specs.Faults.{json_fault_text, path_text, shape_name};
+ghost use Rattle.job_model.specs.ReportTexts.{fault_text, limit_text};
+ghost use Rattle.text_model.specs.TreeTexts.{line};
+ghost use Rattle.msg_tree.specs.Limiting.{limit_of};
+ghost use Rattle.outlook_cli.specs.Report.{line_of};
+ghost use Rattle.text8_model.specs.Unmapped.{unmapped_text, why_text};
+ghost use Rattle.tree_from_json.specs.Ends.{plain_fault as json_fault_of, shape_of};
+ghost use Rattle.tree_edit.specs.Meaning.{fault_of as edit_fault_of, why_of as edit_why_of};
+ghost use Rattle.tree_text8.specs.Meaning.{unmapped_of, why_of};
 
 use crate::status::Status;
-use carrier_io::{Failed, Fault, Sink, Writing, write_gathered, write_parts, write_pieces};
+use carrier_io::{
+    Failed, Fault, Numbers, Sink, Writing, write_gathered, write_parts, write_pieces,
+};
 use msg_tree::Limit;
+use prop_names::write_decimal;
+use tree_edit::{EditFault, EditWhy};
+use tree_from_json::{JsonFault, Shape};
+use tree_text8::{Unmapped, Why};
+use tree_texts::{write_count, write_counted, write_slashed};
 
-/// Appends the digits of a number.
-fn write_decimal<W: Sink>(sink: &mut W, n: u64) -> Result<(), Failed>
-    ensures { Writes (W.held sink.old) (W.held sink.new) (W.faults sink.old) (W.faults sink.new) result (decimal n) }
-{
-    if n < 10 {
-        return write_pieces(sink, &[48 + n as u8]);
-    }
-    write_decimal(sink, n / 10)?;
-    write_pieces(sink, &[48 + (n % 10) as u8])
-}
-
-/// Appends the line of a refusal.
+/// Appends the line of a refusal: the reason's number and name, and the place in bytes from the input's first.
 fn write_refusal<W: Sink>(sink: &mut W, fault: Fault) -> Result<(), Failed>
-    ensures { Writes (W.held sink.old) (W.held sink.new) (W.faults sink.old) (W.faults sink.new) result (refusal_line fault) }
+    ensures { Writes (W.held sink.old) (W.held sink.new) (W.faults sink.old) (W.faults sink.new) result (line 0 (fault_text (fault_of fault))) }
 {
-    write_pieces(sink, b"refused ")?;
-    write_decimal(sink, u64::from(fault.reason.number()))?;
+    write_counted(sink, b"refused", u64::from(fault.reason.number()))?;
     write_parts(sink, &[b" ", fault.reason.name().as_bytes(), b" at "])?;
     write_decimal(sink, fault.offset)?;
     write_pieces(sink, b"\n")
 }
 
-/// The name of a limit.
-fn limit_name(limit: Limit) -> &'static str
-    ensures { result.now ≡ name_of_limit limit }
-{
-    match limit {
-        Limit::Names(_) => "Names",
-        Limit::Recipients(_) => "Recipients",
-        Limit::Attachments(_) => "Attachments",
-        Limit::Size(_) => "Size",
-    }
-}
-
-/// The number that passes a limit.
-fn counted_in(limit: Limit) -> u64
-    ensures { result ≡ number_in limit }
-{
-    match limit {
-        Limit::Names(counted) => counted,
-        Limit::Recipients(counted) => counted,
-        Limit::Attachments(counted) => counted,
-        Limit::Size(counted) => counted,
-    }
-}
-
-/// Appends the line of a limit that is passed.
+/// Appends the line of a limit that is passed, with the number that passes it.
 fn write_limit<W: Sink>(sink: &mut W, limit: Limit) -> Result<(), Failed>
-    ensures { Writes (W.held sink.old) (W.held sink.new) (W.faults sink.old) (W.faults sink.new) result (limit_line limit) }
+    ensures { Writes (W.held sink.old) (W.held sink.new) (W.faults sink.old) (W.faults sink.new) result (line 0 (limit_text (limit_of limit))) }
 {
-    write_parts(sink, &[b"unfit ", limit_name(limit).as_bytes(), b" "])?;
-    write_decimal(sink, counted_in(limit))?;
+    match limit {
+        Limit::Names(counted) => write_count(sink, b"unfit Names", counted),
+        Limit::Recipients(counted) => write_count(sink, b"unfit Recipients", counted),
+        Limit::Attachments(counted) => write_count(sink, b"unfit Attachments", counted),
+        Limit::Size(counted) => write_count(sink, b"unfit Size", counted),
+    }
+}
+
+/// Why a text isn't mapped, in a word.
+fn why_unmapped(why: Why) -> &'static [u8]
+    ensures { result.now ≡ codes "unmapped " ++ why_text (why_of why) }
+{
+    match why {
+        Why::Page => b"unmapped Page",
+        Why::Byte => b"unmapped Byte",
+    }
+}
+
+/// Appends the line of a text that its page doesn't map.
+fn write_unmapped<W: Sink>(sink: &mut W, unmapped: Unmapped) -> Result<(), Failed>
+    ensures { Writes (W.held sink.old) (W.held sink.new) (W.faults sink.old) (W.faults sink.new) result (line 0 (unmapped_text (unmapped_of unmapped))) }
+{
+    write_pieces(sink, why_unmapped(unmapped.why))?;
+    write_counted(sink, b" property", unmapped.property)?;
+    write_counted(sink, b" element", unmapped.element)?;
+    write_counted(sink, b" at", unmapped.at)?;
+    write_count(sink, b" page", u64::from(unmapped.page))
+}
+
+/// Why an edit can't be done, as the end of its line.
+fn why_undone(why: EditWhy) -> &'static [u8]
+    ensures { result.now ≡ codes " " ++ (why_name (edit_why_of why) ++ 10 ∷ []) }
+{
+    match why {
+        EditWhy::NoPlace => b" NoPlace\n",
+        EditWhy::NoProperty => b" NoProperty\n",
+    }
+}
+
+/// Appends the line of an edit that can't be done.
+fn write_undone<W: Sink>(sink: &mut W, fault: EditFault) -> Result<(), Failed>
+    ensures { Writes (W.held sink.old) (W.held sink.new) (W.faults sink.old) (W.faults sink.new) result (line 0 (edit_text (edit_fault_of fault))) }
+{
+    write_counted(sink, b"edit", fault.edit)?;
+    write_pieces(sink, why_undone(fault.why))
+}
+
+/// Why a JSON text means no message, in a word.
+fn why_no_tree(why: Shape) -> &'static [u8]
+    ensures { result.now ≡ codes "json " ++ (shape_name (shape_of why) ++ codes " at ") }
+{
+    match why {
+        Shape::NotJson => b"json NotJson at ",
+        Shape::Form => b"json Form at ",
+        Shape::Kind => b"json Kind at ",
+        Shape::Digits => b"json Digits at ",
+        Shape::Range => b"json Range at ",
+        Shape::Order => b"json Order at ",
+        Shape::Deep => b"json Deep at ",
+    }
+}
+
+/// Appends the steps of a path, each behind a slash, and a slash alone where there are none.
+fn write_path<W: Sink>(sink: &mut W, path: &Numbers) -> Result<(), Failed>
+    ensures { Writes (W.held sink.old) (W.held sink.new) (W.faults sink.old) (W.faults sink.new) result (path_text path.now) }
+{
+    if path.len() == 0 {
+        return write_pieces(sink, b"/");
+    }
+    write_slashed(sink, path)
+}
+
+/// Appends the line of the first fault of a JSON text.
+fn write_no_tree<W: Sink>(sink: &mut W, fault: &JsonFault) -> Result<(), Failed>
+    ensures { Writes (W.held sink.old) (W.held sink.new) (W.faults sink.old) (W.faults sink.new) result (line 0 (json_fault_text (json_fault_of fault.now))) }
+{
+    write_pieces(sink, why_no_tree(fault.why))?;
+    write_path(sink, &fault.path)?;
     write_pieces(sink, b"\n")
 }
 
 /// Appends the line of a status, part by part.
-fn write_line<W: Sink>(sink: &mut W, status: Status) -> Result<(), Failed>
-    ensures { Writes (W.held sink.old) (W.held sink.new) (W.faults sink.old) (W.faults sink.new) result (line_of status) }
+fn write_line<W: Sink>(sink: &mut W, status: &Status) -> Result<(), Failed>
+    ensures { Writes (W.held sink.old) (W.held sink.new) (W.faults sink.old) (W.faults sink.new) result (line_of status.now) }
 {
     match status {
         Status::Done => Ok(()),
-        Status::Refused(fault) => write_refusal(sink, fault),
+        Status::Refused(fault) => write_refusal(sink, *fault),
         Status::Usage => write_pieces(
             sink,
-            b"usage: show, check, to-msg, to-msg4, to-tnef, wrap, unwrap, or sample N\n",
+            b"usage: show, check, to-msg, to-msg4, to-tnef, wrap, unwrap, to-unicode, to-json, from-json, edit EDITS, or sample N\n",
         ),
-        Status::Unfit(limit) => write_limit(sink, limit),
+        Status::Unmapped(unmapped) => write_unmapped(sink, *unmapped),
+        Status::Edit(fault) => write_undone(sink, *fault),
+        Status::Json(fault) => write_no_tree(sink, fault),
+        Status::Unfit(limit) => write_limit(sink, *limit),
         Status::ReadFault => write_pieces(sink, b"read fault\n"),
         Status::WriteFault => write_pieces(sink, b"write fault\n"),
         Status::NoMemory => write_pieces(sink, b"no memory\n"),
@@ -82,14 +142,14 @@ fn write_line<W: Sink>(sink: &mut W, status: Status) -> Result<(), Failed>
 
 /// The line of a status, as it is appended.
 #[derive(Drop)]
-struct Line {
-    status: Status,
+struct Line<'a> {
+    status: &'a Status,
 }
 
-impl Writing for Line {
+impl<'a> Writing for Line<'a> {
     ghost use Rattle.outlook_cli.specs.Report.{line_of};
 
-    ghost text = { λ l. line_of l.status };
+    ghost text = { λ l. line_of l.status.now };
 
     fn write_to<W: Sink>(&self, sink: &mut W) -> Result<(), Failed> {
         write_line(sink, self.status)
@@ -97,8 +157,8 @@ impl Writing for Line {
 }
 
 /// Appends the line of a status, in one call of the sink.
-pub fn write_report<W: Sink>(sink: &mut W, status: Status) -> Result<(), Failed>
-    ensures { Writes (W.held sink.old) (W.held sink.new) (W.faults sink.old) (W.faults sink.new) result (line_of status) }
+pub fn write_report<W: Sink>(sink: &mut W, status: &Status) -> Result<(), Failed>
+    ensures { Writes (W.held sink.old) (W.held sink.new) (W.faults sink.old) (W.faults sink.new) result (line_of status.now) }
 {
     write_gathered(&Line { status }, sink)
 }

@@ -1,5 +1,6 @@
+use crate::file_tests::file_of;
 use crate::status::Status;
-use crate::tests::{refused, run_over};
+use crate::tests::{is_refused, run_over};
 use carrier_io::{Reason, le16, le32, le64};
 use msg_tree::Limit;
 use std::test::*;
@@ -94,9 +95,13 @@ fn canonical_streams_stay(rt: HostRuntime) -> Result<(), Fail> {
     ];
     for input in &table {
         let got = run_over(&rt, &["to-tnef"], input, &[], &[])?;
-        assert_eq!(rt; got.status, Status::Done);
+        assert!(rt; matches!(got.status, Status::Done));
         assert_eq!(rt; got.output.as_slice(), input.as_slice());
         assert_eq!(rt; got.report.len(), 0);
+    }
+    for (command, input) in [("to-msg", &table[1]), ("to-msg4", &table[4])] {
+        let file = file_of(&rt, command, input)?;
+        assert_eq!(rt; &file_of(&rt, "to-tnef", &file)?, input);
     }
     Ok(())
 }
@@ -122,7 +127,7 @@ fn other_streams_become_canonical(rt: HostRuntime) -> Result<(), Fail> {
     ];
     for (input, wanted) in &table {
         let got = run_over(&rt, &["to-tnef"], input, &[], &[])?;
-        assert_eq!(rt; got.status, Status::Done);
+        assert!(rt; matches!(got.status, Status::Done));
         assert_eq!(rt; got.output.as_slice(), wanted.as_slice());
     }
     Ok(())
@@ -159,9 +164,11 @@ fn faults_in_lists_and_streams(rt: HostRuntime) -> Result<(), Fail> {
         (nested(&rt, 33)?, Reason::TooDeep, 3977),
     ];
     for (input, reason, offset) in &table {
-        let got = run_over(&rt, &["to-tnef"], input, &[], &[])?;
-        assert_eq!(rt; got.status, refused(*reason, *offset));
-        assert_eq!(rt; got.output.len(), 0);
+        for command in ["to-tnef", "to-msg", "to-msg4", "wrap", "show", "check"] {
+            let got = run_over(&rt, &[command], input, &[], &[])?;
+            assert!(rt; is_refused(&got, *reason, *offset));
+            assert_eq!(rt; got.output.len(), 0);
+        }
     }
     Ok(())
 }
@@ -174,7 +181,7 @@ fn many_recipients_and_too_many_names(rt: HostRuntime) -> Result<(), Fail> {
     }
     let input = stream(&rt, 0x0006_9004, &lists)?;
     let got = run_over(&rt, &["to-tnef"], &input, &[], &[])?;
-    assert_eq!(rt; got.status, Status::Done);
+    assert!(rt; matches!(got.status, Status::Done));
     let mut named = Vec::from_slice(rt.alloc(), &le32(32_001))?;
     for number in 0..32_001 {
         named.extend_from_slice(&NAMED[..24])?;
@@ -183,7 +190,7 @@ fn many_recipients_and_too_many_names(rt: HostRuntime) -> Result<(), Fail> {
     }
     let input = listed(&rt, &named)?;
     let got = run_over(&rt, &["to-tnef"], &input, &[], &[])?;
-    assert_eq!(rt; got.status, Status::Unfit(Limit::Names(32_001)));
+    assert!(rt; matches!(got.status, Status::Unfit(Limit::Names(32_001))));
     assert_eq!(rt; got.status.code(), 3);
     assert_eq!(rt; got.output.len(), 0);
     assert_eq!(rt; got.report.as_slice(), &b"unfit Names 32001\n"[..]);

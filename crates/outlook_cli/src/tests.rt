@@ -24,8 +24,12 @@ pub(crate) struct Outcome {
     pub(crate) report: Vec<u8>,
 }
 
-pub(crate) fn refused(reason: Reason, offset: u64) -> Status {
-    Status::Refused(Fault { reason, offset })
+/// Whether an input was refused for a reason, at an offset.
+pub(crate) fn is_refused(got: &Outcome, reason: Reason, offset: u64) -> bool {
+    match got.status {
+        Status::Refused(fault) => fault == Fault { reason, offset },
+        _ => false,
+    }
 }
 
 /// Runs the words over an input, with devices that fail at the calls of these numbers.
@@ -65,30 +69,25 @@ fn streams_are_translated_or_refused(rt: HostRuntime) -> Result<(), Fail> {
     let mut other_sum = ONE_PROPERTY;
     other_sum[61] = 0x1e;
     let table = [
-        (&ONE_PROPERTY[..], Status::Done, &ONE_PROPERTY[..], &b""[..]),
-        (&empty[..], Status::Done, &without[..], &b""[..]),
-        (
-            &[][..],
-            refused(Reason::NotACarrier, 0),
-            &[][..],
-            &b"refused 1 NotACarrier at 0\n"[..],
-        ),
+        (&ONE_PROPERTY[..], 0, &ONE_PROPERTY[..], &b""[..]),
+        (&empty[..], 0, &without[..], &b""[..]),
+        (&[][..], 1, &[][..], &b"refused 1 NotACarrier at 0\n"[..]),
         (
             &other_sum[..],
-            refused(Reason::BadSum, 61),
+            1,
             &[][..],
             &b"refused 63 BadSum at 61\n"[..],
         ),
         (
             &ONE_PROPERTY[..62],
-            refused(Reason::Truncated, 61),
+            1,
             &[][..],
             &b"refused 62 Truncated at 61\n"[..],
         ),
     ];
-    for (input, status, output, report) in table {
+    for (input, code, output, report) in table {
         let got = run_over(&rt, &["to-tnef"], input, &[], &[])?;
-        assert_eq!(rt; got.status, status);
+        assert_eq!(rt; got.status.code(), code);
         assert_eq!(rt; got.output.as_slice(), output);
         assert_eq!(rt; got.report.as_slice(), report);
     }
@@ -100,12 +99,12 @@ fn other_words_are_usage(rt: HostRuntime) -> Result<(), Fail> {
     let table = [&["to-msg", "x"][..], &[][..], &["sample", "007"][..]];
     for words in table {
         let got = run_over(&rt, words, &ONE_PROPERTY, &[0], &[])?;
-        assert_eq!(rt; got.status, Status::Usage);
+        assert!(rt; matches!(got.status, Status::Usage));
         assert_eq!(rt; got.status.code(), 2);
         assert_eq!(rt; got.output.len(), 0);
         assert_eq!(rt;
             got.report.as_slice(),
-            &b"usage: show, check, to-msg, to-msg4, to-tnef, wrap, unwrap, or sample N\n"[..]
+            &b"usage: show, check, to-msg, to-msg4, to-tnef, wrap, unwrap, to-unicode, to-json, from-json, edit EDITS, or sample N\n"[..]
         );
     }
     Ok(())
@@ -114,11 +113,11 @@ fn other_words_are_usage(rt: HostRuntime) -> Result<(), Fail> {
 #[test]
 fn devices_that_fail(rt: HostRuntime) -> Result<(), Fail> {
     let got = run_over(&rt, &["to-tnef"], &ONE_PROPERTY, &[0], &[])?;
-    assert_eq!(rt; got.status, Status::ReadFault);
+    assert!(rt; matches!(got.status, Status::ReadFault));
     assert_eq!(rt; got.output.len(), 0);
     assert_eq!(rt; got.report.as_slice(), &b"read fault\n"[..]);
     let got = run_over(&rt, &["to-tnef"], &ONE_PROPERTY, &[], &[0])?;
-    assert_eq!(rt; got.status, Status::WriteFault);
+    assert!(rt; matches!(got.status, Status::WriteFault));
     assert_eq!(rt; got.output.len(), 0);
     assert_eq!(rt; got.report.as_slice(), &b"write fault\n"[..]);
     Ok(())

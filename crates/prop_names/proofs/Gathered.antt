@@ -1,15 +1,15 @@
 -- Some elements, each once in the order: from a list that is sorted already, and from one in any order.
-use Rattle.std.proofs.Common.{◌≡◌, ℕ, zero, suc, ◌+◌, ◌-◌, ◌<◌, length, get_or, List, [], ◌∷◌, ◌++◌, take, map, false, refl, sym, ap, subst, inl, inr, ◌∙◌, arith}
+use Rattle.std.proofs.Common.{◌≡◌, Bool, cond, ℕ, zero, suc, ◌-◌, ◌<◌, length, get_or, List, [], ◌∷◌, ◌++◌, take, map, false, refl, sym, ap, subst, inl, inr, ◌∙◌, arith}
+use native.Mathlib.Numerals.{unary_clauses}
 use Rattle.std.specs.Prelude.{IsPermutation, Contains, All, Some, slice_get}
-use Rattle.std.specs.Cmp.{IsTotalOrder}
-use Rattle.std.specs.List.{AllByRecursion}
+use Rattle.std.specs.Cmp.{IsTotalOrder, tied_itself, upto}
+use Rattle.std.specs.List.{AllByRecursion, dedup, dedup_from}
 use Rattle.std.specs.List.Sorted.{IsSortedBy}
-use Rattle.std.specs.Ordering.{ordering_reverse, is_lt}
+use Rattle.std.specs.Ordering.{ordering_reverse, is_eq, is_gt, is_lt}
 use Rattle.std.specs.declared.cmp.Ordering.{Ordering}
 use Rattle.std.specs.declared.cmp.Ordering.TheVariants.{Less, Equal, Greater}
 use Rattle.std.proofs.lemmas.Bool.{cases_lt}
-use Rattle.std.proofs.lemmas.Cmp.{tied_itself}
-use Rattle.std.proofs.lemmas.List.{take_more, map-append}
+use Rattle.std.proofs.lemmas.List.{append_assoc, length-append}
 use Rattle.std.proofs.lemmas.List.Edits.{insert_end}
 use Rattle.std.proofs.lemmas.List.Sorted.{Contains-permutation, IsPermutation-sym, IsPermutation-map, ranks_by, sorted_far}
 use Rattle.std.proofs.lemmas.Map.Lookups.{CmpEqualImpliesEq}
@@ -17,7 +17,7 @@ use Rattle.std.proofs.lemmas.Option.{slice_get-get_or, slice_get_within, get_or_
 use Rattle.carrier_model.specs.Places.{IsGap}
 use Rattle.carrier_model.specs.Sorted.{IsStrictlySorted, choose, with_element, with_elements}
 use Rattle.carrier_model.proofs.Place.{with_element_gap, with_element_there}
-use Rattle.carrier_model.proofs.SortedElements.{every_at, every_from, every_elements, all_elements, with_elements-push}
+use Rattle.carrier_model.proofs.SortedElements.{every_at, every_from, every_elements, all_elements}
 use Rattle.carrier_model.proofs.SortedLists.{tail_sorted, head_less, same_elements}
 
 all_at : {A : Type 0} (P : A → Type 0) (xs : List A) (j : ℕ) (d : A) → AllByRecursion P xs → j < length xs → P (get_or xs j d)
@@ -99,31 +99,82 @@ module _ {A : Type 0} {R : A → A → Ordering} (o : IsTotalOrder R) where
       gap : IsGap R m x (length m)
       gap = record { in_range = omega arith; below = under; above = λ j d le lt. absurd (omega arith) }
 
--- one turn over a sorted list, by a view of its elements
-module _ {X A : Type 0} {R : A → A → Ordering} (o : IsTotalOrder R) (f : X → A) (xs : List X) (i : ℕ) (x : X) (at : slice_get xs i ≡ Some x) where
-  none_below : IsSortedBy (λ a b. is_lt (R (f a) (f b))) xs → AllByRecursion (λ y. is_lt (R (f x) y) ≡ false) (with_elements R [] (map f (take i xs)))
-  none_below up =
-      let later : (k : ℕ) (d : X) → k < i → k < length xs → is_lt (R (f x) (f (get_or xs k d))) ≡ false = λ k d lt there. rw (get_or_from_slice_get xs i x d at) at (sorted_far (λ a b. is_lt (R (f a) (f b))) (ranks_by o f) xs up k i d (omega arith) (slice_get_within xs i x at)) in
-      every_elements R (λ y. is_lt (R (f x) y) ≡ false) (map f (take i xs)) [] tt (all_before (λ y. is_lt (R (f x) y) ≡ false) f xs i later)
+all_behind : {A : Type 0} (P : A → Type 0) (xs : List A) (x : A) → AllByRecursion P xs → P x → AllByRecursion P (xs ++ x ∷ [])
+all_behind P [] x all h = (h, tt)
+all_behind P (y ∷ ys) x all h = (all.0, all_behind P ys x all.1 h)
 
-  one_more : with_elements R [] (map f (take (i + 1) xs)) ≡ with_element R (with_elements R [] (map f (take i xs))) (f x)
-  one_more =
-      let taken : take (i + 1) xs ≡ take i xs ++ x ∷ [] = take_more xs i x (slice_get_within xs i x at) ∙ ap (λ z. take i xs ++ z ∷ []) (get_or_from_slice_get xs i x x at) in
-      ap (λ l. with_elements R [] (map f l)) taken ∙ (ap (with_elements R []) (map-append f (take i xs) (x ∷ [])) ∙ with_elements-push R [] (map f (take i xs)) (f x))
+all_so : {A : Type 0} (P Q : A → Type 0) → ((x : A) → P x → Q x) → (xs : List A) → AllByRecursion P xs → AllByRecursion Q xs
+all_so P Q f [] all = tt
+all_so P Q f (x ∷ xs) all = (f x all.0, all_so P Q f xs all.1)
 
-  -- where the last of those that were kept is the element
-  pub kept_before : (m : List A) (n : ℕ) → n ≡ length m → m ≡ with_elements R [] (map f (take i xs)) → slice_get m (n - 1) ≡ Some (f x) → m ≡ with_elements R [] (map f (take (i + 1) xs))
-  kept_before m n long is last =
-      let again : with_element R m (f x) ≡ m = last_again o m (f x) (subst (IsStrictlySorted R) (sym is) (gathered_sorted o (map f (take i xs)))) (subst (λ k. slice_get m (k - 1) ≡ Some (f x)) long last) in
-      sym again ∙ (ap (λ l. with_element R l (f x)) is ∙ sym one_more)
+last_at : {A : Type 0} (xs : List A) (x : A) → slice_get (xs ++ x ∷ []) (length xs) ≡ Some x
+last_at [] x = refl
+last_at (y ∷ ys) x = last_at ys x
 
-  -- and where it isn't
-  pub kept_now : CmpEqualImpliesEq R → IsSortedBy (λ a b. is_lt (R (f a) (f b))) xs → (m : List A) (n : ℕ) → n ≡ length m → m ≡ with_elements R [] (map f (take i xs)) → (slice_get m (n - 1) ≡ Some (f x) → ⊥) → m ++ f x ∷ [] ≡ with_elements R [] (map f (take (i + 1) xs))
-  kept_now exact up m n long is differs =
-      let sorted : IsStrictlySorted R m = subst (IsStrictlySorted R) (sym is) (gathered_sorted o (map f (take i xs))) in
-      let none : AllByRecursion (λ y. is_lt (R (f x) y) ≡ false) m = subst (AllByRecursion (λ y. is_lt (R (f x) y) ≡ false)) (sym is) (none_below up) in
-      let next : with_element R m (f x) ≡ m ++ f x ∷ [] = next_last o exact m (f x) sorted none (λ e. differs (subst (λ k. slice_get m (k - 1) ≡ Some (f x)) (sym long) e)) in
-      sym next ∙ (ap (λ l. with_element R l (f x)) is ∙ sym one_more)
+last_of : {A : Type 0} (xs : List A) (x : A) → slice_get (xs ++ x ∷ []) (length (xs ++ x ∷ []) - 1) ≡ Some x
+last_of xs x = let e : length (xs ++ x ∷ []) - 1 ≡ length xs = omega (arith, length-append xs (x ∷ [])) in rw e (last_at xs x)
+
+-- a sorted list without the elements that come again, by a view of its elements
+module _ {X A : Type 0} {R : A → A → Ordering} (o : IsTotalOrder R) (exact : CmpEqualImpliesEq R) (f : X → A) where
+  abbrev pub same : X → X → Bool
+  same a b = is_eq (R (f a) (f b))
+
+  abbrev pub lower : X → X → Bool
+  lower a b = is_lt (R (f a) (f b))
+
+  turned : (a : Ordering) → is_lt a ≡ false → is_gt (ordering_reverse a) ≡ false
+  turned Less h = absurd cc
+  turned Equal h = refl
+  turned Greater h = refl
+
+  turned_back : (a : Ordering) → is_gt a ≡ false → is_lt (ordering_reverse a) ≡ false
+  turned_back Less h = refl
+  turned_back Equal h = refl
+  turned_back Greater h = absurd cc
+
+  -- without its second element
+  second_gone : (y z : X) (zs : List X) → IsSortedBy lower (y ∷ z ∷ zs) → IsSortedBy lower (y ∷ zs)
+  second_gone y z zs up zero d low high = sorted_far lower (ranks_by o f) (y ∷ z ∷ zs) up 0 2 d (omega arith) (omega (arith, high))
+  second_gone y z zs up (suc k) d low high = let h = simp unary_clauses at (up (suc (suc k)) d (omega arith) (omega (arith, high))) in simp unary_clauses h
+
+  -- one turn, given what the two turns after it say
+  module _ (front : List A) (y z : X) (zs : List X) where
+    abbrev m : List A
+    m = front ++ f y ∷ []
+
+    turn : IsStrictlySorted R m → AllByRecursion (λ w. is_gt (R w (f y)) ≡ false) m → is_lt (R (f z) (f y)) ≡ false → (with_elements R m (map f zs) ≡ front ++ map f (dedup_from same y zs)) → (IsStrictlySorted R (m ++ f z ∷ []) → AllByRecursion (λ w. is_gt (R w (f z)) ≡ false) (m ++ f z ∷ []) → with_elements R (m ++ f z ∷ []) (map f zs) ≡ m ++ map f (dedup_from same z zs)) → with_elements R (with_element R m (f z)) (map f zs) ≡ front ++ map f (cond (is_eq (R (f z) (f y))) (dedup_from same y zs) (y ∷ dedup_from same z zs))
+    turn s below not_lower gone kept = by (R (f z) (f y)) refl
+      where
+        step : is_gt (R (f y) (f z)) ≡ false
+        step = ap is_gt (o.antisymm (f y) (f z)) ∙ turned (R (f z) (f y)) not_lower
+
+        below_next : AllByRecursion (λ w. is_gt (R w (f z)) ≡ false) m
+        below_next = all_so (λ w. is_gt (R w (f y)) ≡ false) (λ w. is_gt (R w (f z)) ≡ false) (λ w h. upto o w (f y) (f z) h step) m below
+
+        none : AllByRecursion (λ w. is_lt (R (f z) w) ≡ false) m
+        none = all_so (λ w. is_gt (R w (f z)) ≡ false) (λ w. is_lt (R (f z) w) ≡ false) (λ w h. ap is_lt (o.antisymm (f z) w) ∙ turned_back (R w (f z)) h) m below_next
+
+        by : (a : Ordering) → R (f z) (f y) ≡ a → with_elements R (with_element R m (f z)) (map f zs) ≡ front ++ map f (cond (is_eq (R (f z) (f y))) (dedup_from same y zs) (y ∷ dedup_from same z zs))
+        by Less e = let h = not_lower in absurd cc
+        by Equal e =
+            let again : with_element R m (f z) ≡ m = last_again o m (f z) s (last_of front (f y) ∙ ap Some (sym (exact (f z) (f y) e))) in
+            rw (again, e) gone
+        by Greater e =
+            let differs : slice_get m (length m - 1) ≡ Some (f z) → ⊥ = λ last. let same_one : Some (f y) ≡ Some (f z) = sym (last_of front (f y)) ∙ last in let one : f y ≡ f z = cc in let itself = tied_itself o (f z) in let turn : R (f z) (f z) ≡ Greater = subst (λ w. R (f z) w ≡ Greater) one e in absurd cc in
+            let next : with_element R m (f z) ≡ m ++ f z ∷ [] = next_last o exact m (f z) s none differs in
+            let sorted : IsStrictlySorted R (m ++ f z ∷ []) = subst (IsStrictlySorted R) next (more_sorted o m (f z) s) in
+            rw (next, e) (kept sorted (all_behind (λ w. is_gt (R w (f z)) ≡ false) m (f z) below_next (ap is_gt (tied_itself o (f z)))) ∙ append_assoc front (f y ∷ []) (map f (dedup_from same z zs)))
+
+  deduped : (front : List A) (y : X) (zs : List X) → IsStrictlySorted R (front ++ f y ∷ []) → AllByRecursion (λ w. is_gt (R w (f y)) ≡ false) (front ++ f y ∷ []) → IsSortedBy lower (y ∷ zs) → with_elements R (front ++ f y ∷ []) (map f zs) ≡ front ++ map f (dedup_from same y zs)
+  deduped front y [] s below up = refl
+  deduped front y (z ∷ zs) s below up =
+      turn front y z zs s below (up 0 y (omega arith) (omega arith))
+      (deduped front y zs s below (second_gone y z zs up))
+      (λ sorted later. deduped (front ++ f y ∷ []) z zs sorted later (λ k d low high. let h = simp unary_clauses at (up (suc k) d (omega arith) (omega (arith, high))) in simp unary_clauses h))
+
+  pub dedup_gathered : (zs : List X) → IsSortedBy lower zs → map f (dedup same zs) ≡ with_elements R [] (map f zs)
+  dedup_gathered [] up = refl
+  dedup_gathered (z ∷ zs) up = sym (deduped [] z zs (cons_sorted o (f z) [] tt (λ i j d lt in_range. absurd (omega (arith, in_range)))) (ap is_gt (tied_itself o (f z)), tt) up)
 
 -- those of a list, from the list that a sort made of it
 pub from_sorted : {X A : Type 0} {R : A → A → Ordering} → IsTotalOrder R → CmpEqualImpliesEq R → (f : X → A) (xs ys zs : List X) (m : List A) → IsPermutation xs ys → zs ≡ ys → m ≡ with_elements R [] (map f zs) → m ≡ with_elements R [] (map f xs)

@@ -7,13 +7,15 @@ pub mod keys;
 pub mod labels;
 pub mod name_set;
 pub mod names;
+pub mod number_texts;
 
-pub use digits::{upper_digits4, upper_digits8};
+pub use digits::{lower_digits2, upper_digits2, upper_digits4, upper_digits8, upper_digits16};
 pub use key_texts::{print_guid, print_key, print_unit};
 pub use keys::Key;
 pub use labels::set_label;
 pub use name_set::NameSet;
 pub use names::{Guid, Name};
+pub use number_texts::write_decimal;
 
 #[cfg(test)]
 mod tests;

@@ -18,6 +18,23 @@ pub enum Name {
     Text { set: Guid, units: Units },
 }
 
+/// Names are equal that have one set, and one number or text.
+impl PartialEq for Name {
+    ghost use Rattle.std.specs.Cmp.{eq_by_cmp_equiv, on_total, partial_equiv_from_equiv};
+    ghost use Rattle.std.specs.Ordering.{is_eq};
+    ghost use Rattle.carrier_model.proofs.Orders.{name_total};
+    ghost use Rattle.carrier_model.specs.Keys.{name_cmp};
+    ghost use Rattle.prop_names.specs.Meaning.{name_of};
+
+    ghost eq = { λ one other. is_eq (name_cmp (name_of one) (name_of other)) };
+
+    ghost laws = { partial_equiv_from_equiv (eq_by_cmp_equiv (on_total name_of name_total)) };
+
+    fn eq(&self, other: &Name) -> bool {
+        self.order(other).is_eq()
+    }
+}
+
 impl Name {
     /// The property set.
     pub fn set(&self) -> Guid

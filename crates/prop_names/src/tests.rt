@@ -1,4 +1,7 @@
-use crate::{Guid, Key, Name, NameSet, print_key, set_label};
+use crate::{
+    Guid, Key, Name, NameSet, lower_digits2, print_key, set_label, upper_digits2, upper_digits16,
+    write_decimal,
+};
 use carrier_io::{MemorySink, Units};
 use std::alloc::Global;
 use std::cmp::Ordering;
@@ -51,6 +54,20 @@ fn keys_in_print(rt: HostRuntime) -> Result<(), Fail> {
 }
 
 #[test]
+fn numbers_in_print(rt: HostRuntime) -> Result<(), Fail> {
+    let alloc = rt.alloc();
+    let mut sink = MemorySink::new(alloc, 20, Vec::new(alloc))
+        .ok()
+        .ok_or("no memory")?;
+    write_decimal(&mut sink, u64::MAX).ok().ok_or("failed")?;
+    assert_eq!(rt; sink.bytes(), "18446744073709551615".as_bytes());
+    assert_eq!(rt; upper_digits16(0x0123_4567_89ab_cdef), *b"0123456789ABCDEF");
+    assert_eq!(rt; upper_digits2(0xc5), *b"C5");
+    assert_eq!(rt; lower_digits2(0xc5), *b"c5");
+    Ok(())
+}
+
+#[test]
 fn labels(rt: HostRuntime) -> Result<(), Fail> {
     assert_eq!(rt; set_label(&APPOINTMENT), Some("PSETID_Appointment"));
     assert_eq!(rt; set_label(&OTHER), None);
@@ -96,7 +113,7 @@ fn a_set_of_some_names(rt: HostRuntime) -> Result<(), Fail> {
     let first = high.copy(rt.alloc()).ok().ok_or("no memory")?;
     let second = low.copy(rt.alloc()).ok().ok_or("no memory")?;
     let names = vec![in rt.alloc(); first, second, again]?;
-    let set = NameSet::of(rt.alloc(), names).ok().ok_or("no memory")?;
+    let set = NameSet::of(rt.alloc(), names);
     assert_eq!(rt; set.len(), 2);
     assert_eq!(rt; set.position(&low), Some(0));
     assert_eq!(rt; set.position(&high), Some(1));

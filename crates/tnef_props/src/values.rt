@@ -59,7 +59,7 @@ fn numbers_from<'a>(
     ensures fault { IfErr result (Refuses (lists.numbers_of width) from.entry) }
 {
     let (count, mut rest) = word(from)?;
-    let mut list = Numbers::new(alloc);
+    let mut list = Numbers::with_capacity(alloc, rest.room_for(count))?;
     for _k in 0..count {
         let (bytes, after) = padded(rest, width)?;
         list.push(number_in(bytes))?;

@@ -2,4 +2,6 @@ mod Carrying
 mod Exact
 mod Forms
 mod Limiting
+mod TakenOn
 mod Telling
+mod Travelling

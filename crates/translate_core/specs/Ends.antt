@@ -20,6 +20,8 @@ use Rattle.translate_core.specs.declared.ends.End.{End}
 use Rattle.translate_core.specs.declared.ends.End.TheVariants.{Refused, Unfit, WriteFault, NoMemory}
 use Rattle.translate_core.specs.declared.ends.MsgEnd.{MsgEnd}
 use Rattle.translate_core.specs.declared.ends.MsgEnd.TheVariants as files
+use Rattle.translate_core.specs.declared.ends.PutEnd.{PutEnd}
+use Rattle.translate_core.specs.declared.ends.PutEnd.TheVariants as puts
 
 -- ---- .msg files
 
@@ -38,9 +40,12 @@ abbrev pub end_of_stop : Stop → End
 end_of_stop (stops.Fault g) = Refused g
 end_of_stop stops.NoMemory = NoMemory
 
-abbrev pub end_of_file : MsgEnd → End
-end_of_file (files.Unfit limit) = Unfit limit
-end_of_file files.NoMemory = NoMemory
+-- what was written of a message, as a translation ends
+abbrev pub ended : Result (Unit {0}) PutEnd → Result (Unit {0}) End
+ended (Ok u) = Ok u
+ended (Err (puts.Unfit limit)) = Err (Unfit limit)
+ended (Err puts.WriteFault) = Err WriteFault
+ended (Err puts.NoMemory) = Err NoMemory
 
 -- The whole result of a job was appended, for a message that passes no limit.
 pub record Written (job : Job) (t : Message) (bytes : List ℕ) (old new : Option (List ℕ)) : Type 0 where

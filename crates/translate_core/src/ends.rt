@@ -1,6 +1,6 @@
 //! How a translation ends without its output.
 ghost use Rattle.std.specs.Prelude.{◌≡◌};
-ghost use Rattle.translate_core.specs.Ends.{end_of_stop, end_of_file};
+ghost use Rattle.translate_core.specs.Ends.{end_of_stop, ended};
 
 use carrier_io::{Fault, Stop};
 use msg_tree::Limit;
@@ -27,6 +27,17 @@ pub enum MsgEnd {
     NoMemory,
 }
 
+/// Why a message was not written, or not all of it.
+#[derive(Clone, Copy, Debug, PartialEq, Eq)]
+pub enum PutEnd {
+    /// The first limit of the target that the message passes. Nothing was written.
+    Unfit(Limit),
+    /// The output failed. A front of the message may stand there.
+    WriteFault,
+    /// Memory was refused. Nothing was written.
+    NoMemory,
+}
+
 /// The end of a reader that stopped.
 pub(crate) fn stopped(stop: Stop) -> End
     ensures { result ≡ end_of_stop stop }
@@ -38,11 +49,13 @@ pub(crate) fn stopped(stop: Stop) -> End
 }
 
 /// The same end, of a translation.
-pub(crate) fn without_file(end: MsgEnd) -> End
-    ensures { result ≡ end_of_file end }
+pub(crate) fn ended(put: Result<(), PutEnd>) -> Result<(), End>
+    ensures { result ≡ ended put }
 {
-    match end {
-        MsgEnd::Unfit(limit) => End::Unfit(limit),
-        MsgEnd::NoMemory => End::NoMemory,
+    match put {
+        Ok(()) => Ok(()),
+        Err(PutEnd::Unfit(limit)) => Err(End::Unfit(limit)),
+        Err(PutEnd::WriteFault) => Err(End::WriteFault),
+        Err(PutEnd::NoMemory) => Err(End::NoMemory),
     }
 }

@@ -4,11 +4,11 @@ ghost use Rattle.cfb_writer.specs.Versions.{sector_of};
 ghost use Rattle.job_model.specs.Commands.{to_msg};
 ghost use Rattle.msg_model.specs.WrittenMsg.{msg_in, msg_of};
 ghost use Rattle.msg_tree.specs.Whole.{plain_of};
-ghost use Rattle.translate_core.specs.Ends.{Caused, FileEnds, Puts, WritesNothing, file_limit};
+ghost use Rattle.translate_core.specs.Ends.{Caused, FileEnds, Puts, WritesNothing, ended, file_limit};
 ghost use Rattle.translate_core.specs.Jobs.{file_job};
 ghost use Rattle.carrier_model.specs.Bytes.{MOST_BYTES};
 
-use crate::ends::{End, MsgEnd, without_file};
+use crate::ends::{MsgEnd, PutEnd};
 use carrier_io::{Blob, MemorySink, PlanEnd, Sink, write_gathered};
 use cfb_list::grown_lists_are_trees;
 use cfb_writer::{Plan, Version, sorted_lists_are_laid_out};
@@ -46,23 +46,38 @@ fn msg_plan<'t, B: Blob>(
 }
 
 /// Writes the canonical .msg file of a tree, in either version, unless the tree passes a limit. [MS-OXMSG 2.1]
-pub(crate) fn write_msg<B: Blob, W: Sink>(
+pub(crate) fn write_file<B: Blob, W: Sink>(
     alloc: Global,
     version: Version,
     tree: &Tree<B>,
     sink: &mut W,
-) -> Result<(), End>
-    ensures puts { (bytes : List ℕ) → Puts (file_job version) (plain_of tree.now) bytes (W.held sink.old) (W.held sink.new) result }
-    ensures nothing { WritesNothing result sink.old sink.new }
-    ensures cause { Caused (W.faults sink.old) (W.faults sink.new) result }
+) -> Result<(), PutEnd>
+    ensures puts { (bytes : List ℕ) → Puts (file_job version) (plain_of tree.now) bytes (W.held sink.old) (W.held sink.new) (ended result) }
+    ensures nothing { WritesNothing (ended result) sink.old sink.new }
+    ensures cause { Caused (W.faults sink.old) (W.faults sink.new) (ended result) }
 {
     match msg_plan(alloc, version, tree) {
-        Err(end) => Err(without_file(end)),
+        Err(MsgEnd::Unfit(limit)) => Err(PutEnd::Unfit(limit)),
+        Err(MsgEnd::NoMemory) => Err(PutEnd::NoMemory),
         Ok(plan) => match write_gathered(&plan, sink) {
             Ok(()) => Ok(()),
-            Err(_) => Err(End::WriteFault),
+            Err(_) => Err(PutEnd::WriteFault),
         },
     }
+}
+
+/// Writes the canonical .msg file of a tree, of version 3. Unfit says which limit the tree passes, the first; nothing is
+/// written then, nor where memory is refused. [MS-OXMSG 2.1]
+pub fn write_msg<B: Blob, W: Sink>(
+    alloc: Global,
+    tree: &Tree<B>,
+    sink: &mut W,
+) -> Result<(), PutEnd>
+    ensures puts { (bytes : List ℕ) → Puts to_msg (plain_of tree.now) bytes (W.held sink.old) (W.held sink.new) (ended result) }
+    ensures nothing { WritesNothing (ended result) sink.old sink.new }
+    ensures cause { Caused (W.faults sink.old) (W.faults sink.new) (ended result) }
+{
+    write_file(alloc, Version::Three, tree, sink)
 }
 
 /// The canonical .msg file of a tree, of version 3. Unfit says which limit the tree passes, the first in the order of names,

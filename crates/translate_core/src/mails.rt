@@ -51,10 +51,6 @@ pub(crate) fn unwrap<W: Sink>(alloc: Global, bytes: &[u8], sink: &mut W) -> Resu
         Ok(stream) => stream,
         Err(stop) => return Err(stopped(stop)),
     };
-    // Never so: the text that codes bytes is longer than they are.
-    if stream.len() as u64 > MOST_BYTES {
-        return Err(End::NoMemory);
-    }
     let _accepted = match read_tnef(alloc, &stream) {
         Ok(accepted) => accepted,
         Err(stop) => return Err(stopped(stop)),

@@ -6,8 +6,8 @@ ghost use Rattle.translate_core.specs.Ends.{Caused, Tells, WritesNothing};
 ghost use Rattle.translate_core.specs.Jobs.{job_seen, file_job};
 
 use crate::accepting::{Input, accept};
-use crate::ends::{End, stopped};
-use crate::files::write_msg;
+use crate::ends::{End, ended, stopped};
+use crate::files::write_file;
 use crate::jobs::Job;
 use crate::laws::{inputs_are_exact, outputs_carry_their_message};
 use crate::mails::{unwrap, wrap};
@@ -27,8 +27,8 @@ fn to_msg<W: Sink>(alloc: Global, version: Version, bytes: &[u8], sink: &mut W) 
     outputs_carry_their_message();
     match accept(alloc, bytes) {
         Err(stop) => Err(stopped(stop)),
-        Ok(Input::Msg(accepted)) => write_msg(alloc, version, &accepted.tree, sink),
-        Ok(Input::Tnef(accepted)) => write_msg(alloc, version, &accepted.tree, sink),
+        Ok(Input::Msg(accepted)) => ended(write_file(alloc, version, &accepted.tree, sink)),
+        Ok(Input::Tnef(accepted)) => ended(write_file(alloc, version, &accepted.tree, sink)),
     }
 }
 

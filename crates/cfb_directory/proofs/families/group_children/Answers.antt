@@ -1,8 +1,14 @@
 use Rattle.std.proofs.Common.{◌≡◌, ◌<◌, [], length, ◌∷◌, ◌++◌, get_or, sym, ◌∙◌, ap, refl, rules}
 use Rattle.std.proofs.lemmas.List.{get_or-map}
-use Rattle.cfb_directory.specs.Families.{kids_of, family_at}
+use Rattle.cfb_directory.specs.Families.{kids_of, names_of, family_at}
 use Rattle.cfb_directory.proofs.FamilyLaws.{family_more, index_same, spelled_same}
 use Rattle.cfb_directory.proofs.families.group_children.Goals as goal
+
+pub push-requires : goal.push-requires
+push-requires c =
+    let child = get_or c.args.order.now c.loop-child.child-index (record { parent = 0; id = 0 }) in
+    let inside : child.parent < length c.loop-child.families.items = search rules in
+    ap names_of c.index_mut.ensures.value ∙ (sym (get_or-map names_of c.loop-child.families.items child.parent c.index_mut.result.now [] inside) ∙ c.loop-child.invariant.spelled child.parent)
 
 pub loop-child-preserved : goal.loop-child-preserved
 loop-child-preserved c =

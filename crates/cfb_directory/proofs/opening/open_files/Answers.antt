@@ -1,5 +1,6 @@
 use Rattle.std.proofs.Common.{◌≡◌, ◌+◌, ◌≤◌, length, [], map, sym, ◌∙◌, ap, arith}
 use Rattle.std.proofs.lemmas.Result.{err_from_is_err_and}
+use Rattle.carrier_model.specs.Bytes.{AllBytes}
 use Rattle.carrier_model.specs.Loads.{taken_by, mini_bound}
 use Rattle.carrier_model.specs.Sectors.{sector_count}
 use Rattle.carrier_model.specs.Tables.{sector_size}
@@ -41,6 +42,14 @@ invariant_of-result c =
     let outline = c.in_ok-families.field-0 in
     let o = c.in_ok-families.ensures in
     let same = c.in_ok-streams.ensures.same in
+    let load = load_same s c.args.bytes.now c.in_ok-sectors.ensures.file c.in_ok-sectors.ensures.answer in
+    let streams = c.in_ok-streams.streams in
+    let claimed = c.in_ok-streams.ensures.answer (taken_by s.loaded) [] c.in_ok-sectors.ensures.marks c.in_ok-sectors.ensures.mini_marks in
+    let length_is : length streams.numbers.items ≡ (directory_of s).count = sym streams.numbers.ok.0 ∙ c.in_ok-streams.ensures.count in
+    let bytes : AllBytes c.args.bytes.now = λ i. omega (arith, c.type_inv.bytes i) in
+    let opens = files_same s c.args.bytes.now claimed.0 o.0 _ c.in_ok-sectors.ensures.file
+    (rw c.in_ok-streams.ensures.same (shape_is s outline o.0 claimed.0 streams.numbers.items streams.views.items o.1 c.in_ok-sectors.ensures.root claimed.2 length_is))
+    (open_done s outline o.0 claimed.0 load o.1 c.in_ok-sectors.ensures.root claimed.1) in
     record {
       count = o.1.count ∙ sym (ap (λ (x : State). entries x) same);
       numbers = c.in_ok-streams.ensures.count ∙ sym (ap (λ (x : State). entries x) same);
@@ -50,6 +59,7 @@ invariant_of-result c =
       spelled = λ p below. o.1.spelled p (rw o.1.count at below) ∙ sym (ap (λ (x : State). map (name_at (directory_of x)) (family_at outline.families.items p)) same);
       apart = λ p. ap (λ (x : State). are_apart (key_of (directory_of x)) (family_at outline.families.items p)) same ∙ shape_apart s outline o.0 o.1 p;
       deep = shape_ends s outline o.0 o.1;
+      opened = ∣ record { bytes = c.args.bytes.now; each = bytes; few = c.requires.short; opens = opens } ∣₁;
     }
 
 pub returns-clause-answer : goal.returns-clause-answer

@@ -6,7 +6,7 @@ use Rattle.std.proofs.lemmas.Result.{err_from_is_err_and}
 use Rattle.carrier_model.specs.Files as plain
 use Rattle.carrier_model.specs.Kinds.{ATTACHED_OBJECT}
 use Rattle.carrier_model.specs.Lookups.{stream_named}
-use Rattle.carrier_model.specs.Meanings.{held_store}
+use Rattle.carrier_model.specs.Meanings.{held_message, held_store}
 use Rattle.carrier_model.specs.Outcomes.{mapped}
 use Rattle.carrier_model.specs.Stores.{PROPERTIES, store_in}
 use Rattle.carrier_model.specs.Turns.{each}
@@ -18,12 +18,14 @@ use Rattle.msg_model.specs.StreamNames.{ATTACHMENT_NAME, value_name}
 use Rattle.msg_props.specs.Sections.{part_of}
 use Rattle.msg_storage.specs.Beside.{GivesBeside, carried_beside, held_beside, rows_beside, pieces_beside}
 use Rattle.msg_storage.specs.Levels.{attachments_in, inner_at, pieces_of, recipients_in}
-use Rattle.msg_storage.proofs.Bodies.{plain_made, store_made}
+use Rattle.msg_storage.proofs.Below.{inner_below}
+use Rattle.msg_storage.proofs.Bodies.{message_made, plain_made, store_made}
 use Rattle.msg_storage.proofs.Messages.{held_below, held_missing, holding, message_in-is, plain_attachment, stops_attached, stops_held, stops_list, stops_pieces, stops_rows, whole_message}
 use Rattle.msg_storage.proofs.Rows.{seen_length, seen_storages, storage_there, storages_are}
 use Rattle.msg_storage.proofs.Turned.{fails_with, list_read, passed_thrice, progress_all, progress_more, progress_none, progress_stops, section_beside}
 use Rattle.msg_storage.proofs.WholeFiles.{none_there, object_text, properties_text, some_there}
-use Rattle.msg_tree.specs.Meaning.{list_of}
+use Rattle.carrier_model.specs.Tree.{embedded}
+use Rattle.msg_tree.specs.Meaning.{list_of, tree_of}
 use Rattle.msg_storage.proofs.reading.+reading.Goals as goal
 
 -- ---- an attachment
@@ -164,6 +166,18 @@ pub read_held-returns-in-None : goal.read_held-returns-in-None
 read_held-returns-in-None t c =
     let s = storage_seen c.args.files.now c.args.at in
     held_missing (inner_at c.args.levels c.args.names.now) s c.args.place (sym (c.in-None.ensures.found (value_name ATTACHED_OBJECT) object_text))
+
+pub read_inner-returns : goal.read_inner-returns
+read_inner-returns t c =
+    let names = c.args.names.now in
+    let s = storage_seen c.args.files.now c.args.at in
+    let y = c.in_ok-message.ensures in
+    let made = message_made bytes_of c.in_ok-new.field-0 ∙ ap (λ m. embedded (tree_of bytes_of m)) c.in_ok-new.ensures.ok in
+    record {
+      more = y.more;
+      passed = y.passed;
+      gives = ap (mapped held_message) (inner_below c.args.levels names c.args.entry s c.if-levels-eq0.false ∙ y.gives) ∙ (λ i. Ok (record { body = sym made i; passed = y.more }));
+    }
 
 -- ---- a message
 

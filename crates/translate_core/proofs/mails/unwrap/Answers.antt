@@ -9,18 +9,18 @@ use Rattle.translate_core.proofs.Telling.{accepted, in_mail, mail_stopped, paylo
 use Rattle.translate_core.proofs.mails.unwrap.Goals as goal
 
 pub returns-in-Err-clause-told : goal.returns-in-Err-clause-told
-returns-in-Err-clause-told g c = rw c.stopped.ensures (mail_stopped {Y = Vec ℕ Global} (λ v. v.items) c.inputs_are_exact.ensures c.args.bytes.now _ _ c.in-Err.stop c.requires c.in-Err.ensures)
+returns-in-Err-clause-told g c = rw c.stopped.ensures (mail_stopped {Y = Vec ℕ Global} (λ v. v.items) c.inputs_are_exact.ensures c.args.bytes.now _ _ c.in-Err.stop c.requires c.in-Err.ensures.value)
 
 pub returns-in-Err-read_tnef-clause-told : goal.returns-in-Err-read_tnef-clause-told
 returns-in-Err-read_tnef-clause-told g c =
-    let e : Envelope c.args.bytes.now c.deref.result.now = rw c.deref.ensures.value c.in-Ok.ensures.found in
+    let e : Envelope c.args.bytes.now c.deref.result.now = rw c.deref.ensures.value c.in-Ok.ensures.value.found in
     rw c.stopped-in-Err-read_tnef.ensures (payload_stopped {Y = Meaning} (λ m. m) c.inputs_are_exact.ensures c.args.bytes.now c.deref.result.now _ _ c.in-Err-read_tnef.stop c.requires e c.in-Err-read_tnef.ensures)
 
 pub returns-in-Ok-write_pieces-clause-told : goal.returns-in-Ok-write_pieces-clause-told
 returns-in-Ok-write_pieces-clause-told g c =
     let m = meaning_in c.in-Ok-read_tnef.accepted in
-    let e : Envelope c.args.bytes.now c.deref.result.now = rw c.deref.ensures.value c.in-Ok.ensures.found in
-    let f : Envelope c.args.bytes.now c.deref-2.result.now = rw c.deref-2.ensures.value c.in-Ok.ensures.found in
+    let e : Envelope c.args.bytes.now c.deref.result.now = rw c.deref.ensures.value c.in-Ok.ensures.value.found in
+    let f : Envelope c.args.bytes.now c.deref-2.result.now = rw c.deref-2.ensures.value c.in-Ok.ensures.value.found in
     let a : Accepts plain_unwrap c.args.bytes.now m = in_mail c.args.bytes.now c.deref.result.now m c.requires e c.in-Ok-read_tnef.ensures.found in
     record {
       m = m;
@@ -32,8 +32,8 @@ returns-in-Ok-write_pieces-clause-told g c =
 pub returns-clause-told : goal.returns-clause-told
 returns-clause-told g c =
     let m = meaning_in c.in-Ok-read_tnef.accepted in
-    let e : Envelope c.args.bytes.now c.deref.result.now = rw c.deref.ensures.value c.in-Ok.ensures.found in
-    let f : Envelope c.args.bytes.now c.deref-2.result.now = rw c.deref-2.ensures.value c.in-Ok.ensures.found in
+    let e : Envelope c.args.bytes.now c.deref.result.now = rw c.deref.ensures.value c.in-Ok.ensures.value.found in
+    let f : Envelope c.args.bytes.now c.deref-2.result.now = rw c.deref-2.ensures.value c.in-Ok.ensures.value.found in
     let a : Accepts plain_unwrap c.args.bytes.now m = in_mail c.args.bytes.now c.deref.result.now m c.requires e c.in-Ok-read_tnef.ensures.found in
     record {
       m = m;

@@ -1,0 +1,4 @@
+pub mod Kept
+pub mod KeptTrees
+pub mod Made
+pub mod WordsFit

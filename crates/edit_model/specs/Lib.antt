@@ -1,0 +1,4 @@
+pub mod EditTexts
+pub mod EditWords
+pub mod Edits
+pub mod SmallEdits

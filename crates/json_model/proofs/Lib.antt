@@ -1,0 +1,16 @@
+pub mod NoFloats
+pub mod Nesting
+pub mod UnitRuns
+pub mod WellFormed
+pub mod Meant
+pub mod HexLaws
+pub mod Complete
+pub mod Keys
+pub mod CompleteProps
+pub mod CompleteStores
+pub mod CompleteMessages
+pub mod Sound
+pub mod SoundProps
+pub mod Blocks
+pub mod SoundStores
+pub mod SoundMessages

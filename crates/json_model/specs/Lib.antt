@@ -1,0 +1,9 @@
+pub mod ByteTrees
+pub mod Faults
+pub mod Parts
+pub mod Digits
+pub mod Texts
+pub mod Properties
+pub mod StoreForms
+pub mod MessageForms
+pub mod JsonMeanings

@@ -1,8 +1,0 @@
-use Rattle.std.proofs.Common.{◌≡◌, ◌+◌, drop}
-use Rattle.std.specs.Prelude.{not}
-use Rattle.std.specs.List.{prefix_len}
-use Rattle.mail_model.specs.Envelope.{is_skipped}
-use Rattle.mime_envelope.proofs.reading.count_kept.Given as goal
-
-abbrev pub invariant-loop-i : goal.invariant-loop-i
-invariant-loop-i l = prefix_len (λ c. not (is_skipped c)) l.bytes ≡ l.i + prefix_len (λ c. not (is_skipped c)) (drop l.i l.bytes)

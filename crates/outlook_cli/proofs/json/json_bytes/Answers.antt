@@ -1,0 +1,17 @@
+use Rattle.msg_tree.specs.Whole.{meaning_in}
+use Rattle.outlook_cli.proofs.Outcomes.{accepts, json_told}
+use Rattle.outlook_cli.proofs.json.json_bytes.Goals as goal
+
+pub returns-in-Ok-Msg-clause-told : goal.returns-in-Ok-Msg-clause-told
+returns-in-Ok-Msg-clause-told g c =
+    let bytes = c.args.bytes.now in
+    let m = meaning_in c.in-Ok-Msg.accepted in
+    let read = rw c.in-Ok-Msg.field-0-is at c.in-Ok-Msg.ensures in
+    json_told bytes _ _ c.write_json.result m (accepts bytes m c.requires read) c.write_json.ensures.puts
+
+pub returns-in-Ok-Tnef-clause-told : goal.returns-in-Ok-Tnef-clause-told
+returns-in-Ok-Tnef-clause-told g c =
+    let bytes = c.args.bytes.now in
+    let m = meaning_in c.in-Ok-Tnef.accepted in
+    let read = rw c.in-Ok-Tnef.field-0-is at c.in-Ok-Tnef.ensures in
+    json_told bytes _ _ c.write_json-in-Ok-Tnef.result m (accepts bytes m c.requires read) c.write_json-in-Ok-Tnef.ensures.puts

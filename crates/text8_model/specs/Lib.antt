@@ -1,0 +1,5 @@
+pub mod Become
+pub mod Pages
+pub mod Texts
+pub mod Unicode
+pub mod Unmapped

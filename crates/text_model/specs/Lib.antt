@@ -1,0 +1,3 @@
+pub mod SampleTrees
+pub mod TreeTexts
+pub mod ValueTexts

@@ -1,0 +1,11 @@
+mod Cuts
+mod Digits
+mod EditSteps
+mod Found
+mod Made
+mod Numerals
+mod Once
+mod StepWords
+mod Steps
+mod Stores
+mod WideTexts

@@ -1,0 +1,74 @@
+//! Edits of a message, and why they can't be done.
+ghost use Rattle.std.specs.Prelude.{◌≡◌};
+ghost use Rattle.tree_edit.specs.declared.edits.EditEnd.TheVariants as ends;
+
+use carrier_io::{NoMemory, Numbers};
+use prop_names::Key;
+use prop_values::{Kind, Prop};
+
+/// What has properties in a message: the message itself, or the recipient or the attachment of a number, from 0.
+#[derive(Clone, Copy, Debug, PartialEq, Eq)]
+pub enum Spot {
+    Message,
+    Recipient(u64),
+    Attachment(u64),
+}
+
+/// A spot in a message.
+#[derive(Debug, Drop)]
+pub struct Place {
+    /// The numbers of the attachments that embed the message, from the top message down.
+    pub path: Numbers,
+    /// Where in the message.
+    pub spot: Spot,
+}
+
+/// One edit. A `path` leads to a message as that of a `Place` does.
+#[derive(Drop)]
+pub enum Edit {
+    /// Puts a property in its place, and in the place of the one that has its key and kind.
+    SetProp { place: Place, prop: Prop<Vec<u8>> },
+    /// Takes the property with the key and the kind out.
+    RemoveProp { place: Place, key: Key, kind: Kind },
+    /// Puts a recipient without properties behind the others.
+    AddRecipient { path: Numbers },
+    /// Takes a recipient out. Those behind it move up.
+    DropRecipient { path: Numbers, number: u64 },
+    /// Takes an attachment out. Those behind it move up.
+    DropAttachment { path: Numbers, number: u64 },
+}
+
+/// Why an edit can't be done.
+#[derive(Clone, Copy, Debug, PartialEq, Eq)]
+pub enum EditWhy {
+    /// Its message, recipient or attachment isn't there.
+    NoPlace,
+    /// Its property isn't there.
+    NoProperty,
+}
+
+/// The first edit that can't be done.
+#[derive(Clone, Copy, Debug, PartialEq, Eq)]
+pub struct EditFault {
+    /// Its number, from 0.
+    pub edit: u64,
+    /// Why not.
+    pub why: EditWhy,
+}
+
+/// Why there is no edited tree.
+#[derive(Clone, Copy, Debug, PartialEq, Eq)]
+pub enum EditEnd {
+    /// An edit can't be done.
+    Fault(EditFault),
+    /// Memory was refused.
+    NoMemory,
+}
+
+impl From<NoMemory> for EditEnd {
+    ghost from_gives = { λ _ e. e ≡ ends.NoMemory };
+
+    fn from(_: NoMemory) -> EditEnd {
+        EditEnd::NoMemory
+    }
+}

@@ -1,0 +1,35 @@
+//! Edits of a tree.
+ghost use Rattle.std.specs.Prelude.{◌≡◌, IfOk, IfErr, Ok};
+ghost use Rattle.edit_model.specs.Edits.{edited_tree};
+ghost use Rattle.msg_tree.specs.Whole.{plain_of};
+ghost use Rattle.tree_edit.specs.Meaning.{IsEndOf};
+
+use crate::edit_list::Edits;
+use crate::editing::{OnceEnd, edit_once};
+use crate::edits::{EditEnd, EditFault};
+use carrier_io::Blob;
+use msg_tree::{Tree, copy_owned};
+use std::alloc::Global;
+
+/// The tree that edits make of another, over owned bytes, each of what those before it made.
+pub fn edited<B: Blob>(
+    alloc: Global,
+    tree: &Tree<B>,
+    edits: &Edits,
+) -> Result<Tree<Vec<u8>>, EditEnd>
+    ensures done { IfOk result (λ t. edited_tree edits.now (plain_of tree.now) ≡ Ok (plain_of t)) }
+    ensures refused { IfErr result (IsEndOf edits.now (plain_of tree.now)) }
+{
+    let mut message = copy_owned(alloc, tree)?.into_message();
+    for n in 0..edits.len() {
+        match edit_once(alloc, &mut message, edits.get(n)) {
+            Ok(()) => {}
+            Err(OnceEnd::Cannot(why)) => {
+                let edit = n as u64;
+                return Err(EditEnd::Fault(EditFault { edit, why }));
+            }
+            Err(OnceEnd::NoMemory) => return Err(EditEnd::NoMemory),
+        }
+    }
+    Ok(Tree::from_shallow(message))
+}

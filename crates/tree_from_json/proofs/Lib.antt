@@ -1,0 +1,12 @@
+pub mod Building
+pub mod EntryLists
+pub mod Hex
+pub mod InOrder
+pub mod Paths
+pub mod Props
+pub mod Reading
+pub mod Shaped
+pub mod SiblingNames
+pub mod SomeNames
+pub mod Turns
+pub mod WholeMessages

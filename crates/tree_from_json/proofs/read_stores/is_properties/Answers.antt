@@ -1,0 +1,9 @@
+use Rattle.carrier_model.specs.Stores.{PROPERTIES}
+use Rattle.tree_from_json.proofs.SiblingNames.{same_from, other_from}
+use Rattle.tree_from_json.proofs.read_stores.is_properties.Goals as goal
+
+pub returns-in-Equal : goal.returns-in-Equal
+returns-in-Equal c = same_from c.args.name.now PROPERTIES c.in-Equal.ensures
+
+pub returns-in_default : goal.returns-in_default
+returns-in_default c = other_from c.args.name.now PROPERTIES c.sibling_order.result (λ e. c.in_default.not-Equal e) c.sibling_order.ensures

@@ -1,0 +1,4 @@
+pub mod Ends
+pub mod Entries
+pub mod KindRows
+pub mod Told

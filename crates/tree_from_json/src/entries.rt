@@ -1,0 +1,99 @@
+//! The storages and streams of a store by their paths, and which may follow which. [MS-CFB 1.3 and 2.6.4]
+ghost use Rattle.std.specs.Prelude.{◌≡◌, ◌-◌, take, length, map};
+ghost use Rattle.std.specs.Cmp.Lexicographic.{slice_cmp};
+ghost use Rattle.std.specs.Ordering.{is_lt};
+ghost use Rattle.carrier_model.specs.FileTrees.{sibling_cmp};
+ghost use Rattle.json_model.specs.StoreForms as plain;
+ghost use Rattle.tree_from_json.specs.Entries.{entry_of};
+
+use crate::siblings::sibling_order;
+use carrier_io::Units;
+use prop_names::Guid;
+use std::cmp::Ordering;
+
+/// A storage or a stream, by the names from the store down to it.
+#[derive(Drop)]
+pub(crate) enum Entry {
+    /// A storage of a class.
+    Storage { path: Vec<Units>, class: Guid },
+    /// The bytes of a stream.
+    Stream { path: Vec<Units>, bytes: Vec<u8> },
+}
+
+impl Entry {
+    /// The names down to it.
+    pub(crate) fn path(&self) -> &[Units]
+        ensures { result.now ≡ plain.path_of (entry_of self.now) }
+    {
+        match self {
+            Entry::Storage { path, .. } => path,
+            Entry::Stream { path, .. } => path,
+        }
+    }
+
+    /// The path of the innermost storage that is open behind it: itself, or the one that it is in.
+    fn open_behind(&self) -> &[Units]
+        ensures { result.now ≡ plain.open_behind (entry_of self.now) }
+    {
+        match self {
+            Entry::Storage { path, .. } => path,
+            Entry::Stream { path, .. } => above(path),
+        }
+    }
+}
+
+/// The path of the storage that the member of a path is in.
+fn above(path: &[Units]) -> &[Units]
+    ensures { result.now ≡ take (length path.now - 1) path.now }
+{
+    &path[..path.len().saturating_sub(1)]
+}
+
+/// Whether a path comes before another, name by name in the order of siblings.
+fn comes_before(one: &[Units], other: &[Units]) -> bool
+    ensures { result ≡ is_lt (slice_cmp sibling_cmp one.now other.now) }
+{
+    for k in 0..one.len() {
+        if k >= other.len() {
+            return false;
+        }
+        match sibling_order(one[k].as_slice(), other[k].as_slice()) {
+            Ordering::Less => return true,
+            Ordering::Equal => {}
+            Ordering::Greater => return false,
+        }
+    }
+    one.len() < other.len()
+}
+
+/// Whether a path is another, or leads to it.
+fn leads_to(one: &[Units], other: &[Units]) -> bool
+    ensures { result ≡ plain.leads_to one.now other.now }
+{
+    if one.len() > other.len() {
+        return false;
+    }
+    for k in 0..one.len() {
+        if one[k].as_slice() != other[k].as_slice() {
+            return false;
+        }
+    }
+    true
+}
+
+/// Whether an entry may stand behind another.
+fn follows(last: &Entry, entry: &Entry) -> bool
+    ensures { result ≡ plain.follows (entry_of last.now) (entry_of entry.now) }
+{
+    comes_before(last.path(), entry.path()) && leads_to(above(entry.path()), last.open_behind())
+}
+
+/// Whether an entry may stand behind all of these.
+pub(crate) fn comes_next(before: &[Entry], entry: &Entry) -> bool
+    ensures { result ≡ plain.comes_next (map entry_of before.now) (entry_of entry.now) }
+{
+    match before.last() {
+        Some(last) => follows(last, entry),
+        None => entry.path().len() == 1,
+    }
+}

@@ -1,0 +1,100 @@
+//! The entries of a store from JSON values.
+ghost use Rattle.std.specs.Prelude.{map};
+ghost use Rattle.serde_json.specs.View.{view};
+ghost use Rattle.json_model.specs.StoreForms as plain;
+ghost use Rattle.json_model.specs.Parts.{read_each};
+ghost use Rattle.json_model.specs.Texts.{read_name as name_meant};
+ghost use Rattle.tree_from_json.specs.Ends.{Reads};
+ghost use Rattle.tree_from_json.specs.Entries.{entry_of};
+
+use crate::entries::{Entry, comes_next};
+use crate::read_digits::{read_guid, read_hex};
+use crate::read_ends::{ReadEnd, Shape, fault_here, under};
+use crate::read_parts::{has_members, items, member};
+use crate::read_texts::read_name;
+use carrier_io::Units;
+use serde_json::Value;
+use std::alloc::Global;
+
+/// The greatest number of units of a name. [MS-CFB 2.6.1]
+const GREATEST_NAME: usize = 31;
+
+/// The elements of an array as names.
+fn read_names(alloc: Global, value: &Value) -> Result<Vec<Units>, ReadEnd>
+    ensures { Reads (λ v. v.items) (read_each (name_meant plain.MOST_NAME) (view value.now)) result }
+{
+    let values = items(alloc, value)?;
+    let mut names = Vec::with_capacity(alloc, values.len())?;
+    for k in 0..values.len() {
+        let name = under(read_name(alloc, &values[k], GREATEST_NAME), k as u64)?;
+        names.push(name)?;
+    }
+    Ok(names)
+}
+
+/// The names of a path, of which there is one at least.
+fn read_path(alloc: Global, value: &Value) -> Result<Vec<Units>, ReadEnd>
+    ensures { Reads (λ v. v.items) (plain.read_path (view value.now)) result }
+{
+    let names = read_names(alloc, value)?;
+    if names.is_empty() {
+        return Err(fault_here(alloc, Shape::Form));
+    }
+    Ok(names)
+}
+
+fn read_storage(alloc: Global, value: &Value) -> Result<Entry, ReadEnd>
+    ensures { Reads entry_of (plain.read_storage_entry (view value.now)) result }
+{
+    let class = member(alloc, value, "class")?;
+    let class = under(read_guid(alloc, class), 0)?;
+    let path = member(alloc, value, "path")?;
+    let path = under(read_path(alloc, path), 1)?;
+    Ok(Entry::Storage { path, class })
+}
+
+fn read_stream(alloc: Global, value: &Value) -> Result<Entry, ReadEnd>
+    ensures { Reads entry_of (plain.read_stream_entry (view value.now)) result }
+{
+    let data = member(alloc, value, "data")?;
+    let bytes = under(read_hex(alloc, data), 0)?;
+    let path = member(alloc, value, "path")?;
+    let path = under(read_path(alloc, path), 1)?;
+    Ok(Entry::Stream { path, bytes })
+}
+
+fn read_entry(alloc: Global, value: &Value) -> Result<Entry, ReadEnd>
+    ensures { Reads entry_of (plain.read_entry (view value.now)) result }
+{
+    if has_members(value, &["class", "path"]) {
+        return read_storage(alloc, value);
+    }
+    if has_members(value, &["data", "path"]) {
+        return read_stream(alloc, value);
+    }
+    Err(fault_here(alloc, Shape::Form))
+}
+
+/// An entry behind others.
+fn read_next(alloc: Global, value: &Value, before: &[Entry]) -> Result<Entry, ReadEnd>
+    ensures { Reads entry_of (plain.read_next_entry (map entry_of before.now) (view value.now)) result }
+{
+    let entry = read_entry(alloc, value)?;
+    if !comes_next(before, &entry) {
+        return Err(fault_here(alloc, Shape::Order));
+    }
+    Ok(entry)
+}
+
+/// The entries of a store, each behind those before it.
+pub(crate) fn read_entries(alloc: Global, value: &Value) -> Result<Vec<Entry>, ReadEnd>
+    ensures { Reads (λ v. map entry_of v.items) (plain.read_entries (view value.now)) result }
+{
+    let values = items(alloc, value)?;
+    let mut entries = Vec::with_capacity(alloc, values.len())?;
+    for k in 0..values.len() {
+        let entry = under(read_next(alloc, &values[k], &entries), k as u64)?;
+        entries.push(entry)?;
+    }
+    Ok(entries)
+}

@@ -1,0 +1,11 @@
+use Rattle.std.proofs.Common.{◌≡◌, ◌++◌, map, take}
+use Rattle.std.specs.List.{AllByRecursion}
+use Rattle.json_model.specs.ByteTrees.{AreBytes}
+use Rattle.json_model.specs.Properties.{bytes_json}
+use Rattle.tree_json.specs.Tokens.{tokens_of_all}
+use Rattle.tree_json.proofs.write_props.write_parts.Given as goal
+
+abbrev pub invariant-loop-k : goal.invariant-loop-k
+invariant-loop-k g l =
+    (l.out ≡ l.initial.out ++ tokens_of_all (map (bytes_json l.single) (take l.k l.list)))
+    × AllByRecursion AreBytes (take l.k l.list)

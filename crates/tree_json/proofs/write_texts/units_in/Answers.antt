@@ -1,0 +1,16 @@
+use Rattle.std.proofs.Common.{◌≡◌, ◌∙◌, ◌+◌, ◌*◌, [], ◌∷◌, ◌++◌, get_or, sym, arith}
+use Rattle.json_model.proofs.UnitRuns.{units_front, units_whole}
+use Rattle.tree_json.proofs.Wholes.{bytes_are}
+use Rattle.tree_json.proofs.write_texts.units_in.Goals as goal
+
+pub loop-k-preserved : goal.loop-k-preserved
+loop-k-preserved c =
+    let x = c.args.bytes.now in
+    let u : c.from_le_bytes.result ≡ get_or x (2 * c.loop-k.k) 0 + 256 * get_or x (2 * c.loop-k.k + 1) 0 = omega (arith, c.from_le_bytes.ensures) in
+    c.in_ok-push.ensures.items ∙ ((λ i. c.loop-k.invariant i ++ u i ∷ []) ∙ sym (units_front x c.loop-k.k (omega (arith, c.loop-k-test.true))))
+
+pub returns-clause-units : goal.returns-clause-units
+returns-clause-units c = c.loop-k.invariant ∙ units_whole c.args.bytes.now c.loop-k.k (omega (arith, c.loop-k-test.false))
+
+pub returns-clause-bytes : goal.returns-clause-bytes
+returns-clause-bytes c = bytes_are _ (λ i. omega (arith, c.type_inv.bytes i))

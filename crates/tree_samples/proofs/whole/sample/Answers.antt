@@ -1,0 +1,9 @@
+use Rattle.std.proofs.Common.{◌∙◌}
+use Rattle.carrier_model.specs.Tree.{message, attachments_from}
+use Rattle.tree_samples.proofs.Made.{made}
+use Rattle.tree_samples.proofs.Shallow.{not_refused}
+use Rattle.tree_samples.proofs.whole.sample.Goals as goal
+
+pub unreachable-requires : goal.unreachable-requires
+unreachable-requires c =
+    not_refused c.args.number _ (made (λ v. v.items) c.in_ok-own_props.field-0 c.in_ok-recipients.field-0 c.in_ok-attachments.field-0 ∙ (λ i. message (c.in_ok-own_props.ensures i) (c.in_ok-recipients.ensures i) (attachments_from (c.in_ok-attachments.ensures i)))) c.in_default.ensures.refused

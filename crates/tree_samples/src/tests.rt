@@ -1,0 +1,19 @@
+use crate::sample;
+use msg_tree::{Counts, counts, names};
+use std::test::*;
+
+#[test]
+fn one_of_each(rt: HostRuntime) -> Result<(), Fail> {
+    let tree = sample(rt.alloc(), 1).ok().ok_or("a tree")?;
+    let expected = Counts {
+        messages: 2,
+        recipients: 1,
+        attachments: 2,
+        properties: 8,
+        depth: 1,
+    };
+    assert_eq!(rt; counts(&tree), expected);
+    let names = names(rt.alloc(), &tree).ok().ok_or("a name")?;
+    assert_eq!(rt; names.len(), 1);
+    Ok(())
+}

@@ -1,0 +1,8 @@
+mod Elements
+mod Folds
+mod Numbers
+mod Pairs
+mod Runs
+mod Steps
+mod Walked
+mod Whole

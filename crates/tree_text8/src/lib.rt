@@ -1,0 +1,18 @@
+//! Texts of 8-bit characters in a tree, as texts of 16-bit units.
+#![tactic(auto)]
+
+mod conversion;
+mod ends;
+mod pages;
+mod properties;
+mod singles;
+mod texts;
+mod trees;
+mod values;
+
+pub use conversion::unicode_of;
+pub use ends::{TextEnd, Unmapped, Why};
+pub use pages::{Page, page_of};
+
+#[cfg(test)]
+mod tests;

@@ -1,0 +1,5 @@
+mod Bodies
+mod Lists
+mod Partly
+mod Pieces
+mod StoreSums
