@@ -181,7 +181,10 @@ fn streams(rt: HostRuntime) -> Result<(), Fail> {
     assert_eq!(rt; sectors.entry_offset(5), 1664);
     let view = sectors.claim(rt.alloc(), 5, &mut walk)?;
     assert_eq!(rt; walk.count(), 5);
-    assert_eq!(rt; fields(&view)?, [2, 0x04_0302, 0x0302, 0x0403_0201, 0x0403, 2561]);
+    assert_eq!(rt;
+        fields(&view)?,
+        [2, 0x04_0302, 0x0302, 0x0403_0201, 0x0403, 2561]
+    );
     assert_eq!(rt; parts(&view)?, [2, 32, 2, 1]);
     assert_eq!(rt; StreamView::empty(rt.alloc()).len(), 0);
     Ok(())
