@@ -24,6 +24,16 @@ fn word(file: &[u8], at: u32) -> Option<u32> {
     }
 }
 
+/// Where bytes stand first in a file.
+pub(crate) fn place_of(file: &[u8], bytes: &[u8]) -> Option<usize> {
+    for at in 0..file.len() {
+        if file[at..].starts_with(bytes) {
+            return Some(at);
+        }
+    }
+    None
+}
+
 /// The file with other bytes from a place on.
 pub(crate) fn changed(
     rt: &HostRuntime,

@@ -1,5 +1,7 @@
-use crate::file_tests::{changed, file_of};
-use crate::stream_tests::{MESSAGE, listed, with_object};
+use crate::file_tests::{changed, file_of, place_of};
+use crate::stream_tests::{MESSAGE, listed, nested_over, with_object};
+use crate::tests::{is_refused, run_over};
+use carrier_io::Reason;
 use std::test::*;
 
 /// The interface of an OLE store.
@@ -136,5 +138,55 @@ fn a_store_without_members(rt: HostRuntime) -> Result<(), Fail> {
     let file = file_of(&rt, "to-msg", &stream)?;
     assert_eq!(rt; file.len(), 3584);
     assert_eq!(rt; file_of(&rt, "to-tnef", &file)?, stream);
+    Ok(())
+}
+
+/// The carried file whose root has one stream without bytes, named U+2345.
+fn with_member(rt: &HostRuntime) -> Result<Vec<u8>, Fail> {
+    let mut numbers = EMPTY_FILE.to_vec(rt.alloc())?;
+    numbers.extend_from_slice(&[
+        (1100, 1),
+        (1152, 0x2345),
+        (1216, 0x0102_0004),
+        (1268, 0xFFFF_FFFE),
+    ])?;
+    compound(rt, &numbers)
+}
+
+/// A directory entry's first 66 bytes: a name and its length in bytes, with its null.
+fn entry_name(rt: &HostRuntime, name: &str) -> Result<Vec<u8>, Fail> {
+    let mut field = Vec::new(rt.alloc());
+    for letter in name.as_bytes() {
+        field.extend_from_slice(&[*letter, 0])?;
+    }
+    let size = (field.len() as u8).wrapping_add(2);
+    while field.len() < 64 {
+        field.push(0)?;
+    }
+    field.extend_from_slice(&[size, 0])?;
+    Ok(field)
+}
+
+#[test]
+fn a_file_with_a_level_too_many(rt: HostRuntime) -> Result<(), Fail> {
+    let carried = with_member(&rt)?;
+    let inner = with_object(&rt, 1552, &[&STORAGE, &carried])?;
+    let file = file_of(&rt, "to-msg", &nested_over(&rt, &inner, 32)?)?;
+    let member = place_of(&file, &[0x45, 0x23, 0, 0]).ok_or("a member")?;
+    let deep = changed(
+        &rt,
+        &file,
+        member,
+        &entry_name(&rt, "__properties_version1.0")?,
+    )?;
+    let entry = [
+        0x0d, 0, 1, 0x37, 6, 0, 0, 0, 0xff, 0xff, 0xff, 0xff, 4, 0, 0, 0,
+    ];
+    let place = place_of(&file, &entry).ok_or("an entry")?;
+    for command in ["to-msg", "to-msg4", "to-tnef"] {
+        let got = run_over(&rt, &[command], &deep, &[], &[])?;
+        assert!(rt; is_refused(&got, Reason::TooDeep, place as u64));
+        assert_eq!(rt; got.output.len(), 0);
+    }
     Ok(())
 }

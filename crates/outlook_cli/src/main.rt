@@ -42,6 +42,8 @@ mod layout_tests;
 #[cfg(test)]
 mod mail_tests;
 #[cfg(test)]
+mod outlook_tests;
+#[cfg(test)]
 mod stream_tests;
 #[cfg(test)]
 mod telling_tests;

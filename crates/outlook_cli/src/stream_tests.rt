@@ -6,7 +6,7 @@ use msg_tree::Limit;
 use std::test::*;
 
 /// A signature, the key 1, the version and the code page 1252.
-const FRONT: [u8; 40] = [
+pub(crate) const FRONT: [u8; 40] = [
     0x78, 0x9f, 0x3e, 0x22, 1, 0, 1, 0x06, 0x90, 0x08, 0, 4, 0, 0, 0, 0, 0, 1, 0, 1, 0, 1, 0x07,
     0x90, 0x06, 0, 8, 0, 0, 0, 0xe4, 4, 0, 0, 0, 0, 0, 0, 0xe8, 0,
 ];
@@ -23,7 +23,7 @@ pub(crate) const NAMED: [u8; 32] = [
     0, 0, 1, 0, 0, 0,
 ];
 
-fn attribute(out: &mut Vec<u8>, level: u8, id: u32, value: &[u8]) -> Result<(), Fail> {
+pub(crate) fn attribute(out: &mut Vec<u8>, level: u8, id: u32, value: &[u8]) -> Result<(), Fail> {
     let mut sum = 0u16;
     for byte in value {
         sum = sum.wrapping_add(u16::from(*byte));
@@ -62,9 +62,9 @@ pub(crate) fn with_object(rt: &HostRuntime, size: u32, value: &[&[u8]]) -> Resul
     Ok(out)
 }
 
-/// A message in which so many messages lie, each in the one before.
-fn nested(rt: &HostRuntime, levels: u32) -> Result<Vec<u8>, Fail> {
-    let mut stream = listed(rt, &[0, 0, 0, 0])?;
+/// A message in which so many messages lie, each in the one before, and at last this one.
+pub(crate) fn nested_over(rt: &HostRuntime, inner: &[u8], levels: u32) -> Result<Vec<u8>, Fail> {
+    let mut stream = inner.to_vec(rt.alloc())?;
     for _ in 0..levels {
         let size = u32::try_from(stream.len()).ok().ok_or("a length")?;
         let size = size.checked_add(16).ok_or("a size")?;
@@ -73,6 +73,11 @@ fn nested(rt: &HostRuntime, levels: u32) -> Result<Vec<u8>, Fail> {
         stream = with_object(rt, size, &[&MESSAGE, &stream, padding])?;
     }
     Ok(stream)
+}
+
+/// A message in which so many messages lie, each in the one before.
+fn nested(rt: &HostRuntime, levels: u32) -> Result<Vec<u8>, Fail> {
+    nested_over(rt, &listed(rt, &[0, 0, 0, 0])?, levels)
 }
 
 #[test]

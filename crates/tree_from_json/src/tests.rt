@@ -135,6 +135,17 @@ fn faults_of_properties(rt: HostRuntime) -> Result<(), Fail> {
             Shape::Digits,
             &[1, 0, 2, 0][..],
         ),
+    ];
+    for (props, why, path) in table {
+        let text = with_props(rt.alloc(), props)?;
+        assert!(rt; has_fault(rt.alloc(), text.as_str(), why, path), "{props}");
+    }
+    Ok(())
+}
+
+#[test]
+fn values_out_of_range(rt: HostRuntime) -> Result<(), Fail> {
+    let table = [
         (
             "[{\"key\":\"8000\",\"kind\":\"Integer32\",\"value\":2}]",
             Shape::Range,

@@ -55,9 +55,45 @@ fn prop<B: Blob>(id: u16, value: Value<B>) -> Prop<B>
     }
 }
 
+/// Adds texts and bytes in two pieces.
+fn add_texts(props: &mut Props<Halves<'static>>) -> Result<(), InsertEnd<Halves<'static>>> {
+    props.insert_sorted(prop(
+        5,
+        Value::Bytes {
+            kind: Kind::String8,
+            bytes: Halves {
+                first: b"a\"\\",
+                second: b"\xe9~",
+            },
+        },
+    ))?;
+    props.insert_sorted(prop(
+        6,
+        Value::Bytes {
+            kind: Kind::String,
+            bytes: Halves {
+                first: b"A\0\xac",
+                second: b"\x20",
+            },
+        },
+    ))?;
+    props.insert_sorted(prop(
+        8,
+        Value::Bytes {
+            kind: Kind::Binary,
+            bytes: Halves {
+                first: b"0123456789abcdef",
+                second: b"0123456789abcdefg",
+            },
+        },
+    ))?;
+    Ok(())
+}
+
 /// A value of each sort.
 fn values(alloc: Global) -> Result<Props<Halves<'static>>, InsertEnd<Halves<'static>>> {
     let mut props = Props::new(alloc);
+    add_texts(&mut props)?;
     props.insert_sorted(prop(
         2,
         Value::Number {
@@ -80,40 +116,10 @@ fn values(alloc: Global) -> Result<Props<Halves<'static>>, InsertEnd<Halves<'sta
         },
     ))?;
     props.insert_sorted(prop(
-        5,
-        Value::Bytes {
-            kind: Kind::String8,
-            bytes: Halves {
-                first: b"a\"\\",
-                second: b"\xe9~",
-            },
-        },
-    ))?;
-    props.insert_sorted(prop(
-        6,
-        Value::Bytes {
-            kind: Kind::String,
-            bytes: Halves {
-                first: b"A\0\xac",
-                second: b"\x20",
-            },
-        },
-    ))?;
-    props.insert_sorted(prop(
         7,
         Value::Number {
             kind: Kind::Time,
             bits: u64::MAX,
-        },
-    ))?;
-    props.insert_sorted(prop(
-        8,
-        Value::Bytes {
-            kind: Kind::Binary,
-            bytes: Halves {
-                first: b"0123456789abcdef",
-                second: b"0123456789abcdefg",
-            },
         },
     ))?;
     let mut numbers = Numbers::new(alloc);
