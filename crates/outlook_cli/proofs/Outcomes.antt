@@ -19,8 +19,8 @@ use Rattle.edit_model.specs.Edits.{EditFault, edited_tree}
 use Rattle.json_model.specs.Faults.{JsonFault}
 use Rattle.json_model.specs.JsonMeanings.{MOST_JSON, TextMeansTree, FirstJsonFault}
 use Rattle.json_model.specs.MessageForms.{json_text}
-use Rattle.outlook_cli.specs.declared.status.Status.{Status}
-use Rattle.outlook_cli.specs.declared.status.Status.TheVariants.{Done, Refused, Usage, Unmapped, Edit, Json, Unfit, ReadFault, WriteFault, NoMemory}
+use Rattle.outlook_status.specs.declared.status.Status.{Status}
+use Rattle.outlook_status.specs.declared.status.Status.TheVariants.{Done, Refused, Usage, Unmapped, Edit, Json, Unfit, ReadFault, WriteFault, NoMemory}
 use Rattle.outlook_cli.specs.Outcome.{Tells, TellsJob, TellsText, TellsChange, TellsJson, TellsTree, PutsJson, IsShort, IsTooLong, IsJsonAnswered, ToldOfTree, IsTreeAnswered, most_bytes, ToldOfChange, PutsChange, PutsFile, IsSnag, status_of_text, IsChangeAnswered, IsText, shown, checked, IsDone, IsUnfit, IsRefused, IsAnswered, IsTold, Answers, LeavesAtDone}
 use Rattle.outlook_cli.specs.Words.{Reads}
 use Rattle.json_model.proofs.CompleteMessages.{one_tree_of_text, one_fault_of_text, no_fault_of_text}

@@ -22,8 +22,8 @@ use Rattle.job_model.specs.Signatures.{is_compound}
 use Rattle.job_model.specs.Targets.{passed_limit}
 use Rattle.text_model.specs.TreeTexts.{Carrier, msg_file, tnef_stream, show_text, check_text}
 use Rattle.msg_tree.specs.Limiting.{limit_of}
-use Rattle.outlook_cli.specs.declared.status.Status.{Status}
-use Rattle.outlook_cli.specs.declared.status.Status.TheVariants.{Done, Refused, Usage, Unmapped, Edit, Json, Unfit, ReadFault, WriteFault, NoMemory}
+use Rattle.outlook_status.specs.declared.status.Status.{Status}
+use Rattle.outlook_status.specs.declared.status.Status.TheVariants.{Done, Refused, Usage, Unmapped, Edit, Json, Unfit, ReadFault, WriteFault, NoMemory}
 use Rattle.translate_core.specs.Ends.{Translated, TooMuch, Broken, Written, CutOff}
 use Rattle.tree_edit.specs.Meaning.{fault_of as edit_fault_of}
 use Rattle.tree_from_json.specs.Ends.{plain_fault as json_fault_of}

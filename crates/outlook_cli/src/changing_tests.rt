@@ -1,5 +1,5 @@
 use crate::file_tests::{changed, file_of};
-use crate::status::Status;
+use outlook_status::Status;
 use crate::stream_tests::listed;
 use crate::tests::{ONE_PROPERTY, run_over};
 use std::test::*;

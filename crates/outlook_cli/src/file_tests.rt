@@ -1,4 +1,4 @@
-use crate::status::Status;
+use outlook_status::Status;
 use crate::stream_tests::{NAMED, listed};
 use crate::tests::{ONE_PROPERTY, is_refused, run_over};
 use carrier_io::{Reason, le16, le32, u32_at};

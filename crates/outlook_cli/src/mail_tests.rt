@@ -1,4 +1,4 @@
-use crate::status::Status;
+use outlook_status::Status;
 use crate::tests::{is_refused, run_over};
 use carrier_io::Reason;
 use std::test::*;

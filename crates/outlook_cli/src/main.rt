@@ -3,10 +3,8 @@
 
 mod changing;
 mod json;
-mod report;
 mod run;
 mod sampling;
-mod status;
 mod telling;
 mod words;
 

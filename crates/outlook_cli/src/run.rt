@@ -6,15 +6,14 @@ ghost use Rattle.carrier_model.specs.Bytes.{MOST_BYTES};
 ghost use Rattle.job_model.specs.Commands as plain;
 ghost use Rattle.job_model.specs.Commands.{command_of};
 ghost use Rattle.outlook_cli.specs.Words.{command_seen, texts, Reads};
-ghost use Rattle.outlook_cli.specs.Report.{Reports, line_of};
+ghost use Rattle.outlook_status.specs.Report.{Reports, line_of};
 ghost use Rattle.outlook_cli.specs.Outcome.{Answers, LeavesAtDone, Tells, TellsJob, WritesNothing, most_bytes};
 ghost use Rattle.translate_core.specs.Jobs.{job_seen};
 
 use crate::changing::{edit_bytes, unicode_bytes};
 use crate::json::{JSON_LIMIT, json_bytes, tree_bytes};
-use crate::report::write_report;
 use crate::sampling::write_sample;
-use crate::status::Status;
+use outlook_status::{Status, write_report};
 use crate::telling::{check_bytes, show_bytes};
 use crate::words::{Command, job_of};
 use carrier_io::{Fault, ReadEnd, Reason, Sink, Source, read_all};

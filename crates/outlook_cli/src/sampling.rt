@@ -10,7 +10,7 @@ ghost use Rattle.msg_tree.specs.Whole.{plain_of};
 ghost use Rattle.outlook_cli.specs.Forms.{AreForms};
 ghost use Rattle.outlook_cli.specs.Outcome.{IsText, WritesNothing};
 
-use crate::status::Status;
+use outlook_status::Status;
 use carrier_io::{Failed, NoMemory, Sink, Writing, sum_of, write_gathered};
 use msg_tree::{Tree, names};
 use prop_names::NameSet;

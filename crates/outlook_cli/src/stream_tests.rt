@@ -1,5 +1,5 @@
 use crate::file_tests::file_of;
-use crate::status::Status;
+use outlook_status::Status;
 use crate::tests::{is_refused, run_over};
 use carrier_io::{Reason, le16, le32, le64};
 use msg_tree::Limit;

@@ -9,7 +9,7 @@ ghost use Rattle.outlook_cli.specs.Outcome.{IsText, TellsText, WritesNothing, ca
 ghost use Rattle.text_model.specs.TreeTexts.{show_text};
 ghost use Rattle.tree_texts.specs.Carriers.{carrier_of as carrier_told};
 
-use crate::status::Status;
+use outlook_status::Status;
 use carrier_io::{Blob, Sink, Stop, write_gathered};
 use msg_tree::{Accepted, Tree, names};
 use std::alloc::Global;

@@ -1,5 +1,5 @@
 use crate::run::run;
-use crate::status::Status;
+use outlook_status::Status;
 use carrier_io::{Fault, MemorySink, MemorySource, Reason};
 use std::test::*;
 

@@ -1,4 +1,4 @@
-use Rattle.outlook_cli.proofs.report.write_limit.Goals as goal
+use Rattle.outlook_status.proofs.report.write_limit.Goals as goal
 
 pub returns-in-Names : goal.returns-in-Names
 returns-in-Names g c = rw c.in-Names.is c.write_count.ensures

@@ -2,9 +2,9 @@ use Rattle.std.proofs.Common.{◌++◌, [], ◌∷◌, sym}
 use Rattle.std.specs.Prelude.{codes}
 use Rattle.carrier_io.proofs.Known.{andthen, failing}
 use Rattle.edit_model.specs.EditTexts.{why_name}
-use Rattle.outlook_cli.proofs.Snags.{undone_is}
+use Rattle.outlook_status.proofs.Snags.{undone_is}
 use Rattle.tree_edit.specs.Meaning.{fault_of}
-use Rattle.outlook_cli.proofs.report.write_undone.Goals as goal
+use Rattle.outlook_status.proofs.report.write_undone.Goals as goal
 
 pub returns-in_err-write_counted : goal.returns-in_err-write_counted
 returns-in_err-write_counted g c =

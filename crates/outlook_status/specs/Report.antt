@@ -10,8 +10,8 @@ use Rattle.msg_tree.specs.Limiting.{limit_of}
 use Rattle.tree_edit.specs.Meaning.{fault_of as edit_fault_of}
 use Rattle.tree_from_json.specs.Ends.{plain_fault as json_fault_of}
 use Rattle.tree_text8.specs.Meaning.{unmapped_of}
-use Rattle.outlook_cli.specs.declared.status.Status.{Status}
-use Rattle.outlook_cli.specs.declared.status.Status.TheVariants.{Done, Refused, Usage, Unmapped, Edit, Json, Unfit, ReadFault, WriteFault, NoMemory}
+use Rattle.outlook_status.specs.declared.status.Status.{Status}
+use Rattle.outlook_status.specs.declared.status.Status.TheVariants.{Done, Refused, Usage, Unmapped, Edit, Json, Unfit, ReadFault, WriteFault, NoMemory}
 
 abbrev pub ending_of : Status → Ending
 ending_of Done = done

@@ -1,10 +1,10 @@
 use Rattle.std.proofs.Common.{◌++◌, sym}
 use Rattle.std.specs.Prelude.{codes}
 use Rattle.carrier_io.proofs.Known.{andthen, failing}
-use Rattle.outlook_cli.proofs.Snags.{unmapped_is}
+use Rattle.outlook_status.proofs.Snags.{unmapped_is}
 use Rattle.text_model.specs.TreeTexts.{line, counted}
 use Rattle.tree_text8.specs.Meaning.{unmapped_of}
-use Rattle.outlook_cli.proofs.report.write_unmapped.Goals as goal
+use Rattle.outlook_status.proofs.report.write_unmapped.Goals as goal
 
 pub returns-in_err-write_pieces : goal.returns-in_err-write_pieces
 returns-in_err-write_pieces g c =

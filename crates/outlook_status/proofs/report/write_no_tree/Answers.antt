@@ -1,9 +1,9 @@
 use Rattle.std.proofs.Common.{◌++◌, [], ◌∷◌, sym}
 use Rattle.carrier_io.proofs.Known.{andthen, failing}
 use Rattle.json_model.specs.Faults.{path_text}
-use Rattle.outlook_cli.proofs.Snags.{no_tree_is}
+use Rattle.outlook_status.proofs.Snags.{no_tree_is}
 use Rattle.tree_from_json.specs.Ends.{plain_fault}
-use Rattle.outlook_cli.proofs.report.write_no_tree.Goals as goal
+use Rattle.outlook_status.proofs.report.write_no_tree.Goals as goal
 
 pub returns-in_err-write_pieces : goal.returns-in_err-write_pieces
 returns-in_err-write_pieces g c =

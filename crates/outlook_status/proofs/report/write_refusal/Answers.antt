@@ -2,8 +2,8 @@ use Rattle.std.proofs.Common.{◌++◌, [], ◌∷◌, sym}
 use Rattle.std.specs.Prelude.{codes, decimal}
 use Rattle.carrier_io.specs.Reasons.{name_of}
 use Rattle.carrier_io.proofs.Known.{andthen, failing}
-use Rattle.outlook_cli.proofs.Lines.{refusal_is}
-use Rattle.outlook_cli.proofs.report.write_refusal.Goals as goal
+use Rattle.outlook_status.proofs.Lines.{refusal_is}
+use Rattle.outlook_status.proofs.report.write_refusal.Goals as goal
 
 pub returns-in_err-write_counted : goal.returns-in_err-write_counted
 returns-in_err-write_counted g c =

@@ -26,7 +26,7 @@ pub enum Status {
 impl Status {
     ghost use Rattle.std.specs.Prelude.{◌≡◌};
     ghost use Rattle.job_model.specs.ReportTexts.{exit_code};
-    ghost use Rattle.outlook_cli.specs.Report.{ending_of};
+    ghost use Rattle.outlook_status.specs.Report.{ending_of};
 
     /// The exit code of the program.
     pub fn code(&self) -> u8

@@ -7,7 +7,7 @@ ghost use Rattle.json_model.specs.Faults.{json_fault_text, path_text, shape_name
 ghost use Rattle.job_model.specs.ReportTexts.{fault_text, limit_text};
 ghost use Rattle.text_model.specs.TreeTexts.{line};
 ghost use Rattle.msg_tree.specs.Limiting.{limit_of};
-ghost use Rattle.outlook_cli.specs.Report.{line_of};
+ghost use Rattle.outlook_status.specs.Report.{line_of};
 ghost use Rattle.text8_model.specs.Unmapped.{unmapped_text, why_text};
 ghost use Rattle.tree_from_json.specs.Ends.{plain_fault as json_fault_of, shape_of};
 ghost use Rattle.tree_edit.specs.Meaning.{fault_of as edit_fault_of, why_of as edit_why_of};
@@ -147,7 +147,7 @@ struct Line<'a> {
 }
 
 impl<'a> Writing for Line<'a> {
-    ghost use Rattle.outlook_cli.specs.Report.{line_of};
+    ghost use Rattle.outlook_status.specs.Report.{line_of};
 
     ghost text = { λ l. line_of l.status.now };
 
