@@ -12,24 +12,23 @@ const END: u32 = 0xFFFF_FFFE;
 
 /// Writes a number in four bytes.
 fn put(file: &mut Vec<u8>, at: u32, value: u32) {
-    for (i, byte) in value.to_le_bytes().iter().enumerate() {
-        if let Some(slot) = file.get_mut(at as usize + i) {
-            *slot = *byte;
-        }
+    for (slot, byte) in file.iter_mut().skip(at as usize).zip(value.to_le_bytes()) {
+        *slot = byte;
     }
 }
 
 /// Writes a name, each character in two bytes, and a class.
 fn put_name(file: &mut Vec<u8>, at: u32, name: &str, class: &[u8; 16]) {
-    for (i, byte) in name.as_bytes().iter().enumerate() {
-        if let Some(slot) = file.get_mut(at as usize + 2 * i.min(31)) {
-            *slot = *byte;
-        }
+    for (slot, byte) in file
+        .iter_mut()
+        .skip(at as usize)
+        .step_by(2)
+        .zip(name.as_bytes())
+    {
+        *slot = *byte;
     }
-    for (i, byte) in class.iter().enumerate() {
-        if let Some(slot) = file.get_mut(at as usize + 80 + i) {
-            *slot = *byte;
-        }
+    for (slot, byte) in file.iter_mut().skip(at as usize + 80).zip(class) {
+        *slot = *byte;
     }
 }
 

@@ -21,19 +21,20 @@ const PUBLIC: Guid = Guid([
 
 /// Writes a number in four bytes.
 fn put(file: &mut Vec<u8>, at: u32, value: u32) {
-    for (i, byte) in value.to_le_bytes().iter().enumerate() {
-        if let Some(slot) = file.get_mut(at as usize + i) {
-            *slot = *byte;
-        }
+    for (slot, byte) in file.iter_mut().skip(at as usize).zip(value.to_le_bytes()) {
+        *slot = byte;
     }
 }
 
 /// Writes a name, each character in two bytes.
 fn put_name(file: &mut Vec<u8>, at: u32, name: &[u8; 20]) {
-    for (i, byte) in name.iter().enumerate() {
-        if let Some(slot) = file.get_mut(at as usize + 2 * i) {
-            *slot = *byte;
-        }
+    for (slot, byte) in file
+        .iter_mut()
+        .skip(at as usize)
+        .step_by(2)
+        .zip(name.as_slice())
+    {
+        *slot = *byte;
     }
 }
 

@@ -12,10 +12,8 @@ const END: u32 = 0xFFFF_FFFE;
 
 /// Writes a number in four bytes.
 fn put(file: &mut Vec<u8>, at: u32, value: u32) {
-    for (i, byte) in value.to_le_bytes().iter().enumerate() {
-        if let Some(slot) = file.get_mut(at as usize + i) {
-            *slot = *byte;
-        }
+    for (slot, byte) in file.iter_mut().skip(at as usize).zip(value.to_le_bytes()) {
+        *slot = byte;
     }
 }
 
@@ -59,10 +57,13 @@ fn small_file(alloc: Global, size: u32) -> Result<Vec<u8>, AllocError> {
     for (at, value) in words {
         put(&mut file, at, value);
     }
-    for (i, byte) in b"__properties_version1.0".iter().enumerate() {
-        if let Some(slot) = file.get_mut(1152 + 2 * i) {
-            *slot = *byte;
-        }
+    for (slot, byte) in file
+        .iter_mut()
+        .skip(1152)
+        .step_by(2)
+        .zip(b"__properties_version1.0")
+    {
+        *slot = *byte;
     }
     Ok(file)
 }

@@ -12,10 +12,8 @@ const END: u32 = 0xFFFF_FFFE;
 
 /// Writes a number in four bytes.
 fn put(file: &mut Vec<u8>, at: u32, value: u32) {
-    for (i, byte) in value.to_le_bytes().iter().enumerate() {
-        if let Some(slot) = file.get_mut(at as usize + i) {
-            *slot = *byte;
-        }
+    for (slot, byte) in file.iter_mut().skip(at as usize).zip(value.to_le_bytes()) {
+        *slot = byte;
     }
 }
 
