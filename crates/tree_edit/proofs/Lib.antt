@@ -1,10 +1,13 @@
+mod Composed
 mod Cuts
 mod Digits
 mod EditSteps
+mod Falling
 mod Found
 mod Made
 mod Numerals
 mod Once
+mod Setting
 mod StepWords
 mod Steps
 mod Stores

@@ -1,3 +1,4 @@
 pub mod Changes
 pub mod Meaning
 pub mod Reading
+pub mod Runs

@@ -2,7 +2,7 @@
 ghost use Rattle.std.specs.Prelude.{◌≡◌, ◌≤◌, ℕ, List, [], ◌∷◌, ◌++◌, drop, length, ◌<◌, OnOk, IfOk, IfErr, Ok, Err};
 ghost use Rattle.edit_model.specs.Edits.{at_path, at_spot, body_with, changed_at, dropped_at, edited_once, with_body, with_props};
 ghost use Rattle.msg_tree.specs.Meaning.{tree_of, list_of, body_of};
-ghost use Rattle.tree_edit.specs.Changes.{IsCauseOf, on_list, on_message, way_of};
+ghost use Rattle.tree_edit.specs.Changes.{IsCauseOf, on_list, on_message};
 ghost use Rattle.tree_edit.specs.Meaning.{edit_of, spot_of};
 ghost use Rattle.tree_edit.specs.declared.editing.OnceEnd.TheVariants as ends;
 ghost use Rattle.tree_edit.specs.declared.edits.EditWhy.TheVariants as whys;
@@ -21,6 +21,19 @@ pub enum OnceEnd {
     Cannot(EditWhy),
     /// Memory was refused.
     NoMemory,
+}
+
+/// What is done to a message.
+#[derive(Drop)]
+pub enum Deed<'a> {
+    /// The properties of a spot are changed.
+    Change(Spot, Change<'a>),
+    /// A recipient without properties is put behind the others.
+    AddRecipient,
+    /// The recipient of the number is taken out.
+    DropRecipient(u64),
+    /// The attachment of the number is taken out.
+    DropAttachment(u64),
 }
 
 impl From<NoMemory> for OnceEnd {
@@ -123,86 +136,75 @@ fn change_spot(
     Ok(())
 }
 
-/// Does an edit in its own message.
-fn edit_message(alloc: Global, message: &mut Message<Vec<u8>>, edit: &Edit) -> Result<(), OnceEnd>
-    ensures ok { OnOk result (on_message (edit_of edit.now) (tree_of (λ v. v.items) message.old) ≡ Ok (tree_of (λ v. v.items) message.new)) }
-    ensures err { IfErr result (IsCauseOf (on_message (edit_of edit.now) (tree_of (λ v. v.items) message.old))) }
+/// Does something to a message.
+fn do_here(alloc: Global, message: &mut Message<Vec<u8>>, deed: &Deed<'_>) -> Result<(), OnceEnd>
+    ensures ok { OnOk result (on_message deed.now (tree_of (λ v. v.items) message.old) ≡ Ok (tree_of (λ v. v.items) message.new)) }
+    ensures err { IfErr result (IsCauseOf (on_message deed.now (tree_of (λ v. v.items) message.old))) }
 {
-    match edit {
-        Edit::SetProp { place, prop } => {
-            change_spot(alloc, message, place.spot, &Change::Set(prop))?
-        }
-        Edit::RemoveProp { place, key, kind } => {
-            change_spot(alloc, message, place.spot, &Change::Remove(key, *kind))?
-        }
-        Edit::AddRecipient { .. } => message.recipients.push(Props::new(alloc))?,
-        Edit::DropRecipient { number, .. } => drop_recipient(&mut message.recipients, *number)?,
-        Edit::DropAttachment { number, .. } => drop_attachment(&mut message.attachments, *number)?,
+    match deed {
+        Deed::Change(spot, change) => change_spot(alloc, message, *spot, change)?,
+        Deed::AddRecipient => message.recipients.push(Props::new(alloc))?,
+        Deed::DropRecipient(number) => drop_recipient(&mut message.recipients, *number)?,
+        Deed::DropAttachment(number) => drop_attachment(&mut message.attachments, *number)?,
     }
     Ok(())
 }
 
-/// The numbers of the attachments that lead to the message of an edit.
-fn path_of(edit: &Edit) -> &Numbers
-    ensures { result.now ≡ way_of (edit_of edit.now) }
-{
-    match edit {
-        Edit::SetProp { place, .. } => &place.path,
-        Edit::RemoveProp { place, .. } => &place.path,
-        Edit::AddRecipient { path } => path,
-        Edit::DropRecipient { path, .. } => path,
-        Edit::DropAttachment { path, .. } => path,
-    }
-}
-
-/// Does an edit in the message to which what is left of its path leads.
+/// Does something to the message to which what is left of a path leads.
 #[cycle(below)]
-fn edit_below(
+fn do_below(
     alloc: Global,
     message: &mut Message<Vec<u8>>,
+    path: &Numbers,
     at: usize,
-    edit: &Edit,
+    deed: &Deed<'_>,
 ) -> Result<(), OnceEnd>
-    ensures ok { OnOk result (at_path (on_message (edit_of edit.now)) (drop at (way_of (edit_of edit.now))) (tree_of (λ v. v.items) message.old) ≡ Ok (tree_of (λ v. v.items) message.new)) }
-    ensures err { IfErr result (IsCauseOf (at_path (on_message (edit_of edit.now)) (drop at (way_of (edit_of edit.now))) (tree_of (λ v. v.items) message.old))) }
+    ensures ok { OnOk result (at_path (on_message deed.now) (drop at path.now) (tree_of (λ v. v.items) message.old) ≡ Ok (tree_of (λ v. v.items) message.new)) }
+    ensures err { IfErr result (IsCauseOf (at_path (on_message deed.now) (drop at path.now) (tree_of (λ v. v.items) message.old))) }
 {
-    let path = path_of(edit);
     if at >= path.len() {
-        return edit_message(alloc, message, edit);
+        return do_here(alloc, message, deed);
     }
     let number = *path.get(at);
-    edit_attachment(alloc, &mut message.attachments, number, at + 1, edit)?;
+    do_in_attachment(alloc, &mut message.attachments, number, path, at + 1, deed)?;
     Ok(())
 }
 
-/// Does an edit in the message of an attachment or below it.
+/// Does something to the message of an attachment or below it.
 #[cycle(below)]
-fn edit_attachment(
+fn do_in_attachment(
     alloc: Global,
     attachments: &mut Attachments<Vec<u8>>,
     number: u64,
+    path: &Numbers,
     at: usize,
-    edit: &Edit,
+    deed: &Deed<'_>,
 ) -> Result<(), OnceEnd>
-    ensures ok { OnOk result (changed_at (with_body (at_path (on_message (edit_of edit.now)) (drop at (way_of (edit_of edit.now))))) number (list_of (λ v. v.items) attachments.old) ≡ Ok (list_of (λ v. v.items) attachments.new)) }
-    ensures err { IfErr result (IsCauseOf (changed_at (with_body (at_path (on_message (edit_of edit.now)) (drop at (way_of (edit_of edit.now))))) number (list_of (λ v. v.items) attachments.old))) }
+    ensures ok { OnOk result (changed_at (with_body (at_path (on_message deed.now) (drop at path.now))) number (list_of (λ v. v.items) attachments.old) ≡ Ok (list_of (λ v. v.items) attachments.new)) }
+    ensures err { IfErr result (IsCauseOf (changed_at (with_body (at_path (on_message deed.now) (drop at path.now))) number (list_of (λ v. v.items) attachments.old))) }
 {
     let k = place_in(number, attachments.len())?;
     let mut held = attachments.replace(k, empty(alloc));
-    edit_body(alloc, &mut held.body, at, edit)?;
+    do_in_body(alloc, &mut held.body, path, at, deed)?;
     drop(attachments.replace(k, held));
     Ok(())
 }
 
-/// Does an edit in a message that an attachment holds.
+/// Does something to a message that an attachment holds, or below it.
 #[cycle(below)]
-fn edit_body(alloc: Global, body: &mut Body<Vec<u8>>, at: usize, edit: &Edit) -> Result<(), OnceEnd>
-    ensures ok { OnOk result (body_with (at_path (on_message (edit_of edit.now)) (drop at (way_of (edit_of edit.now)))) (body_of (λ v. v.items) body.old) ≡ Ok (body_of (λ v. v.items) body.new)) }
-    ensures err { IfErr result (IsCauseOf (body_with (at_path (on_message (edit_of edit.now)) (drop at (way_of (edit_of edit.now)))) (body_of (λ v. v.items) body.old))) }
+fn do_in_body(
+    alloc: Global,
+    body: &mut Body<Vec<u8>>,
+    path: &Numbers,
+    at: usize,
+    deed: &Deed<'_>,
+) -> Result<(), OnceEnd>
+    ensures ok { OnOk result (body_with (at_path (on_message deed.now) (drop at path.now)) (body_of (λ v. v.items) body.old) ≡ Ok (body_of (λ v. v.items) body.new)) }
+    ensures err { IfErr result (IsCauseOf (body_with (at_path (on_message deed.now) (drop at path.now)) (body_of (λ v. v.items) body.old))) }
 {
     match body {
         Body::Message(inner) => {
-            edit_below(alloc, inner, at, edit)?;
+            do_below(alloc, inner, path, at, deed)?;
             Ok(())
         }
         Body::Plain => Err(OnceEnd::Cannot(EditWhy::NoPlace)),
@@ -210,10 +212,39 @@ fn edit_body(alloc: Global, body: &mut Body<Vec<u8>>, at: usize, edit: &Edit) ->
     }
 }
 
+/// Does something to the message to which a path leads. The whole message is of no use where it wasn't done.
+pub fn do_at(
+    alloc: Global,
+    message: &mut Message<Vec<u8>>,
+    path: &Numbers,
+    deed: &Deed<'_>,
+) -> Result<(), OnceEnd>
+    ensures ok { OnOk result (at_path (on_message deed.now) path.now (tree_of (λ v. v.items) message.old) ≡ Ok (tree_of (λ v. v.items) message.new)) }
+    ensures err { IfErr result (IsCauseOf (at_path (on_message deed.now) path.now (tree_of (λ v. v.items) message.old))) }
+{
+    do_below(alloc, message, path, 0, deed)
+}
+
 /// Does an edit. The message is of no use where it wasn't done.
 pub fn edit_once(alloc: Global, message: &mut Message<Vec<u8>>, edit: &Edit) -> Result<(), OnceEnd>
     ensures ok { OnOk result (edited_once (edit_of edit.now) (tree_of (λ v. v.items) message.old) ≡ Ok (tree_of (λ v. v.items) message.new)) }
     ensures err { IfErr result (IsCauseOf (edited_once (edit_of edit.now) (tree_of (λ v. v.items) message.old))) }
 {
-    edit_below(alloc, message, 0, edit)
+    match edit {
+        Edit::SetProp { place, prop } => {
+            let deed = Deed::Change(place.spot, Change::Set(prop));
+            do_at(alloc, message, &place.path, &deed)
+        }
+        Edit::RemoveProp { place, key, kind } => {
+            let deed = Deed::Change(place.spot, Change::Remove(key, *kind));
+            do_at(alloc, message, &place.path, &deed)
+        }
+        Edit::AddRecipient { path } => do_at(alloc, message, path, &Deed::AddRecipient),
+        Edit::DropRecipient { path, number } => {
+            do_at(alloc, message, path, &Deed::DropRecipient(*number))
+        }
+        Edit::DropAttachment { path, number } => {
+            do_at(alloc, message, path, &Deed::DropAttachment(*number))
+        }
+    }
 }

@@ -5,8 +5,10 @@ ghost use Rattle.prop_names.specs.Meaning.{key_of};
 ghost use Rattle.prop_values.specs.Kinds.{kind_number};
 ghost use Rattle.tree_edit.specs.Changes.{IsCauseOf, on_list};
 
+use crate::edit_list::Edits;
 use crate::editing::OnceEnd;
 use crate::edits::EditWhy;
+use crate::merging::set_props;
 use carrier_io::NoMemory;
 use prop_names::Key;
 use prop_values::copy::copy_prop;
@@ -18,6 +20,8 @@ use std::alloc::Global;
 pub enum Change<'a> {
     /// The property is put in its place, and in the place of the one that has its key and kind.
     Set(&'a Prop<Vec<u8>>),
+    /// The same with each property that the edits set from the one number on, up to the other, in turn.
+    SetAll(&'a Edits, usize, usize),
     /// The property with the key and the kind is taken out.
     Remove(&'a Key, Kind),
 }
@@ -63,6 +67,10 @@ pub fn change_props(
         Change::Set(prop) => {
             let copy = copy_prop(alloc, prop)?;
             set_prop(props, copy)?;
+            Ok(())
+        }
+        Change::SetAll(edits, from, to) => {
+            set_props(alloc, props, edits, *from, *to)?;
             Ok(())
         }
         Change::Remove(key, kind) => {

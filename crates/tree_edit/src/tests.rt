@@ -73,6 +73,29 @@ fn edits_that_are_done(rt: HostRuntime) -> Result<(), Fail> {
         &tree(&rt, 2, Some(3))?,
     )?;
     assert!(rt; same(&got.ok().ok_or("a tree")?, &tree(&rt, 2, Some(7))?));
+    let falling = [
+        "set",
+        ".",
+        "0026",
+        "Integer32",
+        "5",
+        "set",
+        ".",
+        "0017",
+        "Integer32",
+        "6",
+        "set",
+        ".",
+        "0017",
+        "Integer32",
+        "1",
+        "remove",
+        ".",
+        "0026",
+        "Integer32",
+    ];
+    let got = edited_by(&rt, &falling, &tree(&rt, 2, None)?)?;
+    assert!(rt; same(&got.ok().ok_or("a tree")?, &tree(&rt, 1, None)?));
     let there_and_back = [
         "add-recipient",
         ".",

@@ -5,8 +5,9 @@ ghost use Rattle.msg_tree.specs.Whole.{plain_of};
 ghost use Rattle.tree_edit.specs.Meaning.{IsEndOf};
 
 use crate::edit_list::Edits;
-use crate::editing::{OnceEnd, edit_once};
+use crate::editing::OnceEnd;
 use crate::edits::{EditEnd, EditFault};
+use crate::runs::edit_next;
 use carrier_io::Blob;
 use msg_tree::{Tree, copy_owned};
 use std::alloc::Global;
@@ -21,11 +22,12 @@ pub fn edited<B: Blob>(
     ensures refused { IfErr result (IsEndOf edits.now (plain_of tree.now)) }
 {
     let mut message = copy_owned(alloc, tree)?.into_message();
-    for n in 0..edits.len() {
-        match edit_once(alloc, &mut message, edits.get(n)) {
-            Ok(()) => {}
+    let mut at = 0;
+    while at < edits.len() {
+        match edit_next(alloc, &mut message, edits, at) {
+            Ok(count) => at += count,
             Err(OnceEnd::Cannot(why)) => {
-                let edit = n as u64;
+                let edit = at as u64;
                 return Err(EditEnd::Fault(EditFault { edit, why }));
             }
             Err(OnceEnd::NoMemory) => return Err(EditEnd::NoMemory),

@@ -1,7 +1,13 @@
-use Rattle.msg_tree.specs.Meaning.{tree_of}
-use Rattle.tree_edit.specs.Meaning.{edit_of}
-use Rattle.tree_edit.proofs.Once.{once_is}
 use Rattle.tree_edit.proofs.editing.edit_once.Goals as goal
 
-pub returns-clause-err : goal.returns-clause-err
-returns-clause-err c = rw (once_is (edit_of c.args.edit.now) (tree_of (λ v. v.items) c.args.message.now)) c.edit_below.ensures.err
+pub returns-in-SetProp-clause-err : goal.returns-in-SetProp-clause-err
+returns-in-SetProp-clause-err c = rw c.in-SetProp.is c.do_at.ensures.err
+
+pub returns-in-RemoveProp-clause-err : goal.returns-in-RemoveProp-clause-err
+returns-in-RemoveProp-clause-err c = rw c.in-RemoveProp.is c.do_at-in-RemoveProp.ensures.err
+
+pub returns-in-DropRecipient-clause-err : goal.returns-in-DropRecipient-clause-err
+returns-in-DropRecipient-clause-err c = rw c.in-DropRecipient.is c.do_at-in-DropRecipient.ensures.err
+
+pub returns-in-DropAttachment-clause-err : goal.returns-in-DropAttachment-clause-err
+returns-in-DropAttachment-clause-err c = rw c.in-DropAttachment.is c.do_at-in-DropAttachment.ensures.err

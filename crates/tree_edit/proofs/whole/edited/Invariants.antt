@@ -1,4 +1,4 @@
-use Rattle.std.proofs.Common.{◌≡◌, ◌≤◌, drop}
+use Rattle.std.proofs.Common.{◌≡◌, ◌≤◌, ◌-◌, drop, length}
 use Rattle.carrier_model.specs.Tree.{depth}
 use Rattle.edit_model.specs.Edits.{edited_from, edited_tree}
 use Rattle.msg_tree.specs.Keeping.{HasStores}
@@ -6,7 +6,11 @@ use Rattle.msg_tree.specs.Meaning.{tree_of}
 use Rattle.msg_tree.specs.Whole.{plain_of}
 use Rattle.tree_edit.proofs.whole.edited.Given as goal
 
-abbrev pub invariant-loop-n : goal.invariant-loop-n
-invariant-loop-n g l = (edited_from l.n (drop l.n l.edits) (tree_of (λ v. v.items) l.message) ≡ edited_tree l.edits (plain_of l.fn.tree))
+abbrev pub invariant-loop-at : goal.invariant-loop-at
+invariant-loop-at g l = (edited_from l.at (drop l.at l.edits) (tree_of (λ v. v.items) l.message) ≡ edited_tree l.edits (plain_of l.fn.tree))
     × (depth (tree_of (λ v. v.items) l.message) ≤ 32)
     × HasStores (tree_of (λ v. v.items) l.message)
+    × (l.at ≤ length l.edits)
+
+abbrev pub decreases-loop-at : goal.decreases-loop-at
+decreases-loop-at g l = length l.edits - l.at

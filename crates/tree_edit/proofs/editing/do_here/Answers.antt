@@ -4,7 +4,7 @@ use Rattle.msg_tree.specs.Meaning.{tree_of, list_of}
 use Rattle.msg_tree.specs.declared.messages.Message.{out-Message}
 use Rattle.tree_edit.proofs.Made.{attachments_done, attachments_fail}
 use Rattle.tree_edit.proofs.Steps.{cause_above}
-use Rattle.tree_edit.proofs.editing.edit_message.Goals as goal
+use Rattle.tree_edit.proofs.editing.do_here.Goals as goal
 
 pub returns-in_err-drop_attachment-in-DropAttachment-clause-err :
     goal.returns-in_err-drop_attachment-in-DropAttachment-clause-err
