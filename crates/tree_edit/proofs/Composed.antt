@@ -78,7 +78,7 @@ body_splits c f g split (ps, embedded m) u is =
     let (n, given, back) = step_of (c m) (λ n. Ok (embedded n)) b made in
     let (y, one, two) = split m n given in
     let same : embedded n ≡ b = cc in
-    ((ps, embedded y), rw one refl, rw two (ap (λ x. Ok (ps, x)) same ∙ last))
+    ((ps, embedded y), rw one refl, rw two (rw same last))
 
 path_splits : (c f g : Message → Result Message Why) (path : List ℕ) → Splits c f g → Splits (at_path c path) (at_path f path) (at_path g path)
 path_splits c f g [] split = split

@@ -16,6 +16,9 @@ use carrier_io::Numbers;
 use msg_tree::Message;
 use std::alloc::Global;
 
+/// So many edits, or more, are done at once: fewer cost less one by one.
+const MANY: usize = 16;
+
 /// Whether two lists of numbers are the same.
 fn are_same(one: &Numbers, other: &Numbers) -> bool
     ensures { IsTrue result → one.now ≡ other.now }
@@ -57,8 +60,8 @@ fn end_of(edits: &Edits, from: usize, place: &Place) -> usize
     edits.len()
 }
 
-/// Does an edit, and with it those behind it that set properties of the same spot. It answers how many were done. The
-/// message is of no use where they weren't.
+/// Does an edit, and with it those behind it that set properties of the same spot where they are many. It answers how many
+/// were done. The message is of no use where they weren't.
 pub fn edit_next(
     alloc: Global,
     message: &mut Message<Vec<u8>>,
@@ -73,7 +76,7 @@ pub fn edit_next(
     let edit = edits.get(at);
     if let Edit::SetProp { place, .. } = edit {
         let end = end_of(edits, at, place);
-        if end - at > 1 {
+        if end - at >= MANY {
             let deed = Deed::Change(place.spot, Change::SetAll(edits, at, end));
             do_at(alloc, message, &place.path, &deed)?;
             return Ok(end - at);

@@ -73,29 +73,6 @@ fn edits_that_are_done(rt: HostRuntime) -> Result<(), Fail> {
         &tree(&rt, 2, Some(3))?,
     )?;
     assert!(rt; same(&got.ok().ok_or("a tree")?, &tree(&rt, 2, Some(7))?));
-    let falling = [
-        "set",
-        ".",
-        "0026",
-        "Integer32",
-        "5",
-        "set",
-        ".",
-        "0017",
-        "Integer32",
-        "6",
-        "set",
-        ".",
-        "0017",
-        "Integer32",
-        "1",
-        "remove",
-        ".",
-        "0026",
-        "Integer32",
-    ];
-    let got = edited_by(&rt, &falling, &tree(&rt, 2, None)?)?;
-    assert!(rt; same(&got.ok().ok_or("a tree")?, &tree(&rt, 1, None)?));
     let there_and_back = [
         "add-recipient",
         ".",
@@ -112,6 +89,45 @@ fn edits_that_are_done(rt: HostRuntime) -> Result<(), Fail> {
     assert!(rt; same(&got.ok().ok_or("a tree")?, &tree(&rt, 2, None)?));
     let got = edited_by(&rt, &["drop-attachment", ".", "0"], &tree(&rt, 2, Some(3))?)?;
     assert!(rt; same(&got.ok().ok_or("a tree")?, &tree(&rt, 2, None)?));
+    Ok(())
+}
+
+/// Puts the words of an edit of an id of the top message behind others.
+fn push_edit(
+    rt: &HostRuntime,
+    list: &mut Vec<String>,
+    verb: &str,
+    id: u32,
+    behind: &[&str],
+) -> Result<(), Fail> {
+    list.push(String::from_str(rt.alloc(), verb)?)?;
+    list.push(String::from_str(rt.alloc(), ".")?)?;
+    list.push(format!(in rt.alloc(); "{id:04X}")?)?;
+    for word in behind {
+        list.push(String::from_str(rt.alloc(), word)?)?;
+    }
+    Ok(())
+}
+
+/// The words of many edits of one place: the ids from 0017 down are set, the first of them twice.
+fn falling_sets(rt: &HostRuntime) -> Result<Vec<String>, Fail> {
+    let mut list = Vec::new(rt.alloc());
+    push_edit(rt, &mut list, "set", 0x17, &["Integer32", "6"])?;
+    for id in (1..0x18).rev() {
+        push_edit(rt, &mut list, "set", id, &["Integer32", "1"])?;
+    }
+    Ok(list)
+}
+
+#[test]
+fn many_edits_of_a_place(rt: HostRuntime) -> Result<(), Fail> {
+    let mut list = falling_sets(&rt)?;
+    for id in 1..0x17 {
+        push_edit(&rt, &mut list, "remove", id, &["Integer32"])?;
+    }
+    let edits = read_edits(rt.alloc(), &list)?.ok_or("edits")?;
+    let got = edited(rt.alloc(), &tree(&rt, 2, None)?, &edits);
+    assert!(rt; same(&got.ok().ok_or("a tree")?, &tree(&rt, 1, None)?));
     Ok(())
 }
 

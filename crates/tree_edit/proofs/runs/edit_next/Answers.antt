@@ -20,11 +20,11 @@ returns-in_err-do_at-clause-err c =
     let same : edit ≡ set_prop place c.in-SetProp.prop = let h : Some edit ≡ Some (edit_of c.get-edit.result.now) = sym at ∙ c.get-edit.ensures in cc in
     rw same (cause_above (at_path (at_spot (λ props. Ok (set_all props run)) place.spot) place.path t) (edited_once (set_prop place c.in-SetProp.prop) t) c.in_err-do_at.field-0.0 (λ why h. run_fails place c.in-SetProp.prop run t why h) c.in_err-do_at.ensures.err))
 
-pub returns-then-end-at-gt1-clause-ok : goal.returns-then-end-at-gt1-clause-ok
-returns-then-end-at-gt1-clause-ok c =
+pub returns-then-end-at-ge-MANY-clause-ok : goal.returns-then-end-at-ge-MANY-clause-ok
+returns-then-end-at-ge-MANY-clause-ok c =
     let run = take (c.end_of-end.result - c.args.at) (drop c.args.at c.args.edits.now) in
     let long : length run ≡ c.end_of-end.result - c.args.at = length-take-le (c.end_of-end.result - c.args.at) (drop c.args.at c.args.edits.now) (omega (arith, length-drop c.args.at c.args.edits.now, c.end_of-end.ensures.bounds.0, c.end_of-end.ensures.bounds.1)) in
-    run_makes (place_of c.in-SetProp.place) run (tree_of (λ v. v.items) c.args.message.now) (tree_of (λ v. v.items) c.do_at.new.message) c.end_of-end.ensures.sets (omega (arith, long, c.if-end-at-gt1.true)) c.in_ok-do_at.ensures.ok
+    run_makes (place_of c.in-SetProp.place) run (tree_of (λ v. v.items) c.args.message.now) (tree_of (λ v. v.items) c.do_at.new.message) c.end_of-end.ensures.sets (omega (arith, long, c.if-end-at-ge-MANY.true)) c.in_ok-do_at.ensures.ok
 
 pub returns-clause-ok : goal.returns-clause-ok
 returns-clause-ok c = rw (one_set c.args.edits.now c.args.at (edit_of c.get-edit.result.now) c.get-edit.ensures) (tree_of (λ v. v.items) c.edit_once.new.message, c.in_ok-edit_once.ensures.ok, refl)
