@@ -53,7 +53,7 @@ impl<'a> Holds<&'a [u8]> for Kept<'a> {
 }
 
 #[test]
-fn lists_are_read(rt: HostRuntime) -> Result<(), Fail> {
+fn texts_are_read(rt: HostRuntime) -> Result<(), Fail> {
     let alloc = rt.alloc();
     let mut passed = PassedList::new(alloc);
     let texts: ReadList<'_, Kept<'_>> = read_list(alloc, &TWO_TEXTS, 0, 0, Part::Top, &mut passed)
@@ -68,6 +68,13 @@ fn lists_are_read(rt: HostRuntime) -> Result<(), Fail> {
         }
         _ => return Err("texts".into()),
     }
+    Ok(())
+}
+
+#[test]
+fn names_are_read(rt: HostRuntime) -> Result<(), Fail> {
+    let alloc = rt.alloc();
+    let mut passed = PassedList::new(alloc);
     let named: ReadList<'_, Kept<'_>> = read_list(alloc, &NAMED, 0, 0, Part::Top, &mut passed)
         .ok()
         .ok_or("a list")?;
