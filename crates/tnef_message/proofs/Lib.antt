@@ -7,13 +7,5 @@ pub mod Joins
 pub mod ObjectMeanings
 pub mod Parts
 pub mod Placing
-pub mod StreamParts
-pub mod NamesOfTree
-pub mod WrittenStreams
 pub mod Streams
 pub mod Tables
-pub mod BodyVariants
-pub mod FittingStores
-pub mod GatheredStores
-pub mod PlannedTrees
-pub mod StoreLists

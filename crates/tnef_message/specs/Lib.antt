@@ -6,9 +6,3 @@ pub mod Interfaces
 pub mod Roles
 pub mod Sections
 pub mod Streams
-pub mod Written
-pub mod Plans
-pub mod PlanViews
-pub mod Carried
-pub mod Gathered
-pub mod TreeStores

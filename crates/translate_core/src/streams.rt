@@ -9,7 +9,7 @@ use crate::ends::End;
 use carrier_io::{Blob, PlanEnd, Sink, write_gathered};
 use msg_tree::{Limit, Tree, fits_tnef, names};
 use std::alloc::Global;
-use tnef_message::TnefPlan;
+use tnef_writer::TnefPlan;
 
 /// Writes the canonical TNEF stream of a tree, unless it passes a limit. [MS-OXTNEF 2.1.3]
 pub(crate) fn write_tnef<B: Blob, W: Sink>(

@@ -1,0 +1,4 @@
+use Rattle.tnef_writer.proofs.write_message.append_rendering.Goals as goal
+
+pub returns : goal.returns
+returns g c = rw (c.le32-place.ensures, c.integer_or.ensures) at c.append_attribute.ensures

@@ -1,0 +1,17 @@
+//! The canonical TNEF stream of a message, planned and written.
+#![tactic(auto)]
+
+mod plan;
+mod store_counts;
+mod store_plans;
+mod store_sizes;
+mod write_attributes;
+mod write_lists;
+mod write_message;
+mod write_objects;
+mod write_sizes;
+
+pub use plan::TnefPlan;
+
+#[cfg(test)]
+mod writing_tests;
