@@ -7,10 +7,10 @@ ghost use Rattle.job_model.specs.Commands.{to_unicode, edited as plain_edited};
 ghost use Rattle.msg_tree.specs.Whole.{plain_of};
 ghost use Rattle.outlook_cli.specs.Outcome.{PutsChange, PutsFile, TellsChange, WritesNothing, status_of_text};
 
-use outlook_status::Status;
 use crate::telling::stopped;
 use carrier_io::{Blob, Sink};
 use msg_tree::Tree;
+use outlook_status::Status;
 use std::alloc::Global;
 use translate_core::{Input, PutEnd, accept, write_msg};
 use tree_edit::{EditEnd, Edits, edited};

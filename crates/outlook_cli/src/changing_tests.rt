@@ -1,7 +1,7 @@
 use crate::file_tests::{changed, file_of};
-use outlook_status::Status;
 use crate::stream_tests::listed;
 use crate::tests::{ONE_PROPERTY, run_over};
+use outlook_status::Status;
 use std::test::*;
 
 /// The property 3FFD with the code page UTF-8, and with one that is not known.

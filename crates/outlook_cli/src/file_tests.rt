@@ -1,8 +1,8 @@
-use outlook_status::Status;
 use crate::stream_tests::{NAMED, listed};
 use crate::tests::{ONE_PROPERTY, is_refused, run_over};
 use carrier_io::{Reason, le16, le32, u32_at};
 use msg_tree::Limit;
+use outlook_status::Status;
 use std::test::*;
 
 /// A TNEF stream without attributes.

@@ -7,10 +7,10 @@ ghost use Rattle.json_model.specs.JsonMeanings.{MOST_JSON};
 ghost use Rattle.outlook_cli.specs.Outcome.{PutsJson, TellsJson, TellsTree, WritesNothing};
 
 use crate::changing::write_file;
-use outlook_status::Status;
 use crate::telling::stopped;
 use carrier_io::{Blob, Sink, write_pieces};
 use msg_tree::{Limit, Tree};
+use outlook_status::Status;
 use std::alloc::Global;
 use translate_core::{Input, accept};
 use tree_from_json::{JsonEnd, tree_of};

@@ -1,6 +1,6 @@
-use outlook_status::Status;
 use crate::tests::{is_refused, run_over};
 use carrier_io::Reason;
+use outlook_status::Status;
 use std::test::*;
 
 /// A TNEF stream without attributes.

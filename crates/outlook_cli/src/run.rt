@@ -13,10 +13,10 @@ ghost use Rattle.translate_core.specs.Jobs.{job_seen};
 use crate::changing::{edit_bytes, unicode_bytes};
 use crate::json::{JSON_LIMIT, json_bytes, tree_bytes};
 use crate::sampling::write_sample;
-use outlook_status::{Status, write_report};
 use crate::telling::{check_bytes, show_bytes};
 use crate::words::{Command, job_of};
 use carrier_io::{Fault, ReadEnd, Reason, Sink, Source, read_all};
+use outlook_status::{Status, write_report};
 use std::alloc::Global;
 use translate_core::{End, Job, inputs_are_exact, translate};
 

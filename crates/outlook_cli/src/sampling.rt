@@ -10,9 +10,9 @@ ghost use Rattle.msg_tree.specs.Whole.{plain_of};
 ghost use Rattle.outlook_cli.specs.Forms.{AreForms};
 ghost use Rattle.outlook_cli.specs.Outcome.{IsText, WritesNothing};
 
-use outlook_status::Status;
 use carrier_io::{Failed, NoMemory, Sink, Writing, sum_of, write_gathered};
 use msg_tree::{Tree, names};
+use outlook_status::Status;
 use prop_names::NameSet;
 use std::alloc::Global;
 use translate_core::{MsgEnd, Trip, TripEnd, msg_bytes, trip};

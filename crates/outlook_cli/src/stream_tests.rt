@@ -1,8 +1,8 @@
 use crate::file_tests::file_of;
-use outlook_status::Status;
 use crate::tests::{is_refused, run_over};
 use carrier_io::{Reason, le16, le32, le64};
 use msg_tree::Limit;
+use outlook_status::Status;
 use std::test::*;
 
 /// A signature, the key 1, the version and the code page 1252.

@@ -9,9 +9,9 @@ ghost use Rattle.outlook_cli.specs.Outcome.{IsText, TellsText, WritesNothing, ca
 ghost use Rattle.text_model.specs.TreeTexts.{show_text};
 ghost use Rattle.tree_texts.specs.Carriers.{carrier_of as carrier_told};
 
-use outlook_status::Status;
 use carrier_io::{Blob, Sink, Stop, write_gathered};
 use msg_tree::{Accepted, Tree, names};
+use outlook_status::Status;
 use std::alloc::Global;
 use translate_core::{Carrier, Input, accept, carrier_of};
 use tree_texts::{CheckText, ShowText, TreeCarrier};

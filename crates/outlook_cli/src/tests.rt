@@ -1,6 +1,6 @@
 use crate::run::run;
-use outlook_status::Status;
 use carrier_io::{Fault, MemorySink, MemorySource, Reason};
+use outlook_status::Status;
 use std::test::*;
 
 /// A stream with the code page 1252 and one property, id 0017 and value 2.
