@@ -159,11 +159,11 @@ fn entry_name(rt: &HostRuntime, name: &str) -> Result<Vec<u8>, Fail> {
     for letter in name.as_bytes() {
         field.extend_from_slice(&[*letter, 0])?;
     }
-    let size = (field.len() as u8).wrapping_add(2);
-    while field.len() < 64 {
+    let size = u8::try_from(field.len()).ok().ok_or("a name")?;
+    for _ in field.len()..64 {
         field.push(0)?;
     }
-    field.extend_from_slice(&[size, 0])?;
+    field.extend_from_slice(&[size.wrapping_add(2), 0])?;
     Ok(field)
 }
 
