@@ -55,8 +55,9 @@ fn prop<B: Blob>(id: u16, value: Value<B>) -> Prop<B>
     }
 }
 
-/// Adds texts and bytes in two pieces.
-fn add_texts(props: &mut Props<Halves<'static>>) -> Result<(), InsertEnd<Halves<'static>>> {
+/// Texts and bytes in two pieces.
+fn texts(alloc: Global) -> Result<Props<Halves<'static>>, InsertEnd<Halves<'static>>> {
+    let mut props = Props::new(alloc);
     props.insert_sorted(prop(
         5,
         Value::Bytes {
@@ -87,13 +88,12 @@ fn add_texts(props: &mut Props<Halves<'static>>) -> Result<(), InsertEnd<Halves<
             },
         },
     ))?;
-    Ok(())
+    Ok(props)
 }
 
 /// A value of each sort.
 fn values(alloc: Global) -> Result<Props<Halves<'static>>, InsertEnd<Halves<'static>>> {
-    let mut props = Props::new(alloc);
-    add_texts(&mut props)?;
+    let mut props = texts(alloc)?;
     props.insert_sorted(prop(
         2,
         Value::Number {
