@@ -125,7 +125,7 @@ fn name_in_set(alloc: Global, streams: NameStreams<'_, '_>, entry: NameEntry) ->
     let set = set_at(streams.guids, index);
     if entry.is_text() {
         let units = text_at(alloc, streams.texts, entry.identifier, entry.offset)?;
-        return Ok(Name::Text { set, units });
+        return Ok(Name::of_text(alloc, set, units)?);
     }
     Ok(Name::Number {
         set,

@@ -66,7 +66,7 @@ fn kind_bit(name: &Name) -> u32
 {
     match name {
         Name::Number { .. } => 0,
-        Name::Text { .. } => 1,
+        Name::Text(_) => 1,
     }
 }
 
@@ -76,7 +76,7 @@ fn label(texts: &[u8], name: &Name) -> [u8; 4]
 {
     match name {
         Name::Number { number, .. } => le32(*number),
-        Name::Text { .. } => low_bytes(texts.len()),
+        Name::Text(_) => low_bytes(texts.len()),
     }
 }
 
@@ -93,7 +93,7 @@ fn push_text(texts: &mut Vec<u8>, name: &Name) -> Result<(), NoMemory>
 {
     match name {
         Name::Number { .. } => Ok(()),
-        Name::Text { units, .. } => push_units(texts, units.as_slice()),
+        Name::Text(text) => push_units(texts, text.units.as_slice()),
     }
 }
 

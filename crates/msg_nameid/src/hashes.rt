@@ -65,7 +65,7 @@ pub(crate) fn hash_number(name: &Name) -> u32
 {
     match name {
         Name::Number { number, .. } => *number,
-        Name::Text { units, .. } => cyclic_sum(units.as_slice()),
+        Name::Text(text) => cyclic_sum(text.units.as_slice()),
     }
 }
 

@@ -139,7 +139,7 @@ fn text(alloc: Global) -> Result<Name, Fail> {
     let mut units = Units::new(alloc);
     units.push(0x41).ok().ok_or("no memory")?;
     units.push(0x62).ok().ok_or("no memory")?;
-    Ok(Name::Text { set: PUBLIC, units })
+    Ok(Name::of_text(alloc, PUBLIC, units).ok().ok_or("no memory")?)
 }
 
 const NUMBER: Name = Name::Number {

@@ -20,7 +20,7 @@ const STRINGS: Guid = Guid([
 fn text(alloc: Global, set: Guid, unit: u16) -> Result<Name, Fail> {
     let mut units = Units::new(alloc);
     units.push(unit).ok().ok_or("no memory")?;
-    Ok(Name::Text { set, units })
+    Ok(Name::of_text(alloc, set, units).ok().ok_or("no memory")?)
 }
 
 #[test]

@@ -108,7 +108,7 @@ fn sample<B: Blob>(alloc: Global, first: B, second: B, third: B) -> Result<Messa
     let mut units = Units::new(alloc);
     units.push(0x61)?;
     let mut recipient = Props::new(alloc);
-    recipient.insert_sorted(named(Name::Text { set: SET, units }))?;
+    recipient.insert_sorted(named(Name::of_text(alloc, SET, units)?))?;
     top.recipients.push(recipient)?;
     top.props.insert_sorted(named(Name::Number {
         set: SET,

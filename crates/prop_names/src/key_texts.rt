@@ -57,7 +57,7 @@ fn print_label<W: Sink>(name: &Name, sink: &mut W) -> Result<(), Failed>
 {
     match name {
         Name::Number { number, .. } => write_pieces(sink, &upper_digits8(*number)),
-        Name::Text { units, .. } => print_quoted(units, sink),
+        Name::Text(text) => print_quoted(&text.units, sink),
     }
 }
 

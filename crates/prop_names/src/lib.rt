@@ -14,7 +14,7 @@ pub use key_texts::{print_guid, print_key, print_unit};
 pub use keys::Key;
 pub use labels::set_label;
 pub use name_set::NameSet;
-pub use names::{Guid, Name};
+pub use names::{Guid, Name, TextName};
 pub use number_texts::write_decimal;
 
 #[cfg(test)]

@@ -1,6 +1,6 @@
 //! Names of properties.
 ghost use Rattle.std.specs.Prelude.{◌≡◌, ◌↔◌, IfOk};
-ghost use Rattle.carrier_model.specs.Keys.{name_cmp, label_cmp, set_of};
+ghost use Rattle.carrier_model.specs.Keys.{name_cmp, label_cmp, set_of, texted};
 ghost use Rattle.prop_names.specs.Meaning.{name_of};
 
 use carrier_io::{NoMemory, Units};
@@ -11,11 +11,19 @@ use std::cmp::Ordering;
 #[derive(Clone, Copy, Debug, PartialEq, Eq)]
 pub struct Guid(pub [u8; 16]);
 
-/// A name in a property set.
+/// A name in a property set: a number or a text. Most are numbers, so a text stands in a box, and a name takes no more
+/// room than a number.
 #[derive(Debug, Drop)]
 pub enum Name {
     Number { set: Guid, number: u32 },
-    Text { set: Guid, units: Units },
+    Text(Box<TextName>),
+}
+
+/// A text in a property set.
+#[derive(Debug, Drop)]
+pub struct TextName {
+    pub set: Guid,
+    pub units: Units,
 }
 
 /// Names are equal that have one set, and one number or text.
@@ -36,13 +44,20 @@ impl PartialEq for Name {
 }
 
 impl Name {
+    /// The name that a text is in a property set.
+    pub fn of_text(alloc: Global, set: Guid, units: Units) -> Result<Name, NoMemory>
+        ensures { IfOk result (λ r. name_of r ≡ texted set.0 units) }
+    {
+        Ok(Name::Text(Box::new(alloc, TextName { set, units })?))
+    }
+
     /// The property set.
     pub fn set(&self) -> Guid
         ensures { result.0 ≡ set_of (name_of self.now) }
     {
         match self {
             Name::Number { set, .. } => *set,
-            Name::Text { set, .. } => *set,
+            Name::Text(text) => text.set,
         }
     }
 
@@ -62,11 +77,11 @@ impl Name {
         match self {
             Name::Number { number: one, .. } => match other {
                 Name::Number { number: two, .. } => one.cmp(two),
-                Name::Text { .. } => Ordering::Less,
+                Name::Text(_) => Ordering::Less,
             },
-            Name::Text { units: one, .. } => match other {
+            Name::Text(one) => match other {
                 Name::Number { .. } => Ordering::Greater,
-                Name::Text { units: two, .. } => one.as_slice().cmp(two.as_slice()),
+                Name::Text(two) => one.units.as_slice().cmp(two.units.as_slice()),
             },
         }
     }
@@ -80,10 +95,7 @@ impl Name {
                 set: *set,
                 number: *number,
             }),
-            Name::Text { set, units } => Ok(Name::Text {
-                set: *set,
-                units: units.copy(alloc)?,
-            }),
+            Name::Text(text) => Name::of_text(alloc, text.set, text.units.copy(alloc)?),
         }
     }
 }

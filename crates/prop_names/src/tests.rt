@@ -22,7 +22,7 @@ fn text(alloc: Global, set: Guid, units: &[u16]) -> Result<Name, Fail> {
     for unit in units {
         list.push(*unit).ok().ok_or("no memory")?;
     }
-    Ok(Name::Text { set, units: list })
+    Ok(Name::of_text(alloc, set, list).ok().ok_or("no memory")?)
 }
 
 fn printed(alloc: Global, key: &Key) -> Result<Vec<u8>, Fail> {
@@ -80,12 +80,7 @@ fn names_in_order(rt: HostRuntime) -> Result<(), Fail> {
         set: APPOINTMENT,
         number: 0x820d,
     };
-    let mut units = Units::new(rt.alloc());
-    units.push(0x41).ok().ok_or("no memory")?;
-    let word = Name::Text {
-        set: APPOINTMENT,
-        units,
-    };
+    let word = text(rt.alloc(), APPOINTMENT, &[0x41])?;
     assert_eq!(rt; number.order(&word), Ordering::Less);
     let mut set = NameSet::new(rt.alloc());
     set.insert(&word).ok().ok_or("no memory")?;

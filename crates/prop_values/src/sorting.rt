@@ -44,7 +44,7 @@ fn rank_in_set(name: &Name) -> u64
 {
     match name {
         Name::Number { number, .. } => NUMBER + u64::from(*number),
-        Name::Text { .. } => TEXT,
+        Name::Text(_) => TEXT,
     }
 }
 

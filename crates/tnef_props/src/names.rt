@@ -57,7 +57,7 @@ fn name_text<'a>(alloc: Global, from: Rest<'a>, set: Guid) -> Result<(Name, Rest
         }));
     }
     let rest = skip_padding(rest, n as usize)?;
-    Ok((Name::Text { set, units }, rest))
+    Ok((Name::of_text(alloc, set, units)?, rest))
 }
 
 /// The number of a name in a property set.

@@ -88,8 +88,8 @@ fn name_size(name: &Name) -> u64
 {
     match name {
         Name::Number { .. } => 24,
-        Name::Text { units, .. } => {
-            let size = 2 * (units.len() as u64 + 1);
+        Name::Text(text) => {
+            let size = 2 * (text.units.len() as u64 + 1);
             24 + size + pad4(size)
         }
     }

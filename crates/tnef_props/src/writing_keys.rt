@@ -78,7 +78,7 @@ fn append_label<W: Sink>(sink: &mut W, name: &Name) -> Result<u16, Failed>
             let n = le32(*number);
             append(sink, &[0, 0, 0, 0, n[0], n[1], n[2], n[3]])
         }
-        Name::Text { units, .. } => append_text(sink, units),
+        Name::Text(text) => append_text(sink, &text.units),
     }
 }
 

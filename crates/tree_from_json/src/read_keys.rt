@@ -42,7 +42,7 @@ fn read_texted(alloc: Global, value: &Value) -> Result<Name, ReadEnd>
         read_name(alloc, member(alloc, value, "text")?, MOST_UNITS),
         1,
     )?;
-    Ok(Name::Text { set, units })
+    Ok(Name::of_text(alloc, set, units)?)
 }
 
 /// A name in a property set.

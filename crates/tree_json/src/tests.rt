@@ -77,8 +77,9 @@ fn larger(alloc: Global) -> Result<Message<Vec<u8>>, &'static str> {
     message.props.insert_sorted(text).ok().ok_or("a text")?;
     let mut units = Units::new(alloc);
     units.push(0xd800).ok().ok_or("a unit")?;
+    let name = Name::of_text(alloc, SET, units).ok().ok_or("a name")?;
     let named = Prop {
-        key: Key::Named(Name::Text { set: SET, units }),
+        key: Key::Named(name),
         value: Value::Guid(RISING),
     };
     message.props.insert_sorted(named).ok().ok_or("a name")?;

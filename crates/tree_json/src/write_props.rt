@@ -50,11 +50,11 @@ fn write_named(alloc: Global, out: &mut JsonText, name: &Name) -> Result<(), NoM
             out.key("set")?;
             write_guid(alloc, out, set)?;
         }
-        Name::Text { set, units } => {
+        Name::Text(name) => {
             out.key("set")?;
-            write_guid(alloc, out, set)?;
+            write_guid(alloc, out, &name.set)?;
             out.key("text")?;
-            write_name(alloc, out, units.as_slice())?;
+            write_name(alloc, out, name.units.as_slice())?;
         }
     }
     out.end_object()
