@@ -1,8 +1,6 @@
 use crate::stream_tests::{NAMED, listed};
-use crate::tests::{ONE_PROPERTY, is_refused, run_over};
-use carrier_io::{Reason, le16, le32, u32_at};
-use msg_tree::Limit;
-use outlook_status::Status;
+use crate::tests::{ONE_PROPERTY, holds, refuse, run_over, write};
+use carrier_io::{Reason, le32, u32_at};
 use std::test::*;
 
 /// A TNEF stream without attributes.
@@ -58,23 +56,22 @@ fn with_binary(rt: &HostRuntime, size: u16) -> Result<Vec<u8>, Fail> {
     for _ in 0..4096 {
         list.push(0)?;
     }
-    let mut sum = 0u16;
-    for byte in &list {
-        sum = sum.wrapping_add(u16::from(*byte));
+    listed(rt, &list)
+}
+
+/// The file has these numbers at their places.
+fn has(file: &[u8], numbers: &[(u32, u32)]) -> Result<(), Fail> {
+    for (at, number) in numbers {
+        holds(word(file, *at) == Some(*number), "another number")?;
     }
-    let mut stream = ONE_PROPERTY[..40].to_vec(rt.alloc())?;
-    stream.extend_from_slice(&[1, 0x03, 0x90, 0x06, 0])?;
-    stream.extend_from_slice(&le32(4112))?;
-    stream.extend_from_slice(&list)?;
-    stream.extend_from_slice(&le16(sum))?;
-    Ok(stream)
+    Ok(())
 }
 
 #[test]
 fn the_file_of_an_empty_message(rt: HostRuntime) -> Result<(), Fail> {
     let file = file_of(&rt, "to-msg", &EMPTY)?;
     assert_eq!(rt; file.len(), 3072);
-    let table = [
+    let numbers = [
         (512, 0xFFFF_FFFD),
         (516, 2),
         (520, 0xFFFF_FFFE),
@@ -91,10 +88,7 @@ fn the_file_of_an_empty_message(rt: HostRuntime) -> Result<(), Fail> {
         (1024 + 5 * 128 + 116, 0),
         (1024 + 5 * 128 + 120, 32),
     ];
-    for (at, number) in table {
-        assert_eq!(rt; word(&file, at), Some(number));
-    }
-    Ok(())
+    has(&file, &numbers)
 }
 
 #[test]
@@ -103,12 +97,9 @@ fn files_are_read_back(rt: HostRuntime) -> Result<(), Fail> {
     let file = file_of(&rt, "to-msg", &ONE_PROPERTY)?;
     assert_eq!(rt; file.len(), 3072);
     assert_eq!(rt; &file[2592..2608], &entry[..]);
-    for command in ["to-msg", "to-msg4"] {
-        let file = file_of(&rt, command, &ONE_PROPERTY)?;
-        let stream = file_of(&rt, "to-tnef", &file)?;
-        assert_eq!(rt; stream.as_slice(), &ONE_PROPERTY[..]);
-    }
-    Ok(())
+    write(&rt, &["to-tnef"], &file, &ONE_PROPERTY)?;
+    let other = file_of(&rt, "to-msg4", &ONE_PROPERTY)?;
+    write(&rt, &["to-tnef"], &other, &ONE_PROPERTY)
 }
 
 #[test]
@@ -125,25 +116,19 @@ fn values_below_and_from_4096_bytes(rt: HostRuntime) -> Result<(), Fail> {
 fn files_of_version_4(rt: HostRuntime) -> Result<(), Fail> {
     let file = file_of(&rt, "to-msg4", &EMPTY)?;
     assert_eq!(rt; file.len(), 20_480);
-    let words = [
+    let numbers = [
         (40, 1),
         (4096, 0xFFFF_FFFD),
         (4100, 0xFFFF_FFFE),
         (4104, 0xFFFF_FFFE),
         (4108, 0xFFFF_FFFE),
     ];
-    for (at, number) in words {
-        assert_eq!(rt; word(&file, at), Some(number));
-    }
-    let other = file_of(&rt, "to-msg", &file)?;
-    assert_eq!(rt; other, file_of(&rt, "to-msg", &EMPTY)?);
-    let faults = [(4100, Reason::Cycle, 4100), (8956, Reason::Shared, 8948)];
-    for (at, reason, offset) in faults {
-        let bent = changed(&rt, &file, at, &[1, 0, 0, 0])?;
-        let got = run_over(&rt, &["to-tnef"], &bent, &[], &[])?;
-        assert!(rt; is_refused(&got, reason, offset));
-    }
-    Ok(())
+    has(&file, &numbers)?;
+    write(&rt, &["to-msg"], &file, &file_of(&rt, "to-msg", &EMPTY)?)?;
+    let cycle = changed(&rt, &file, 4100, &[1, 0, 0, 0])?;
+    refuse(&rt, &["to-tnef"], &cycle, Reason::Cycle, 4100)?;
+    let shared = changed(&rt, &file, 8956, &[1, 0, 0, 0])?;
+    refuse(&rt, &["to-tnef"], &shared, Reason::Shared, 8948)
 }
 
 #[test]
@@ -157,16 +142,16 @@ fn files_with_faults(rt: HostRuntime) -> Result<(), Fail> {
     ];
     for (at, number, reason, offset) in table {
         let bent = changed(&rt, &file, at, &le32(number))?;
-        let got = run_over(&rt, &["to-tnef"], &bent, &[], &[])?;
-        assert!(rt; is_refused(&got, reason, offset));
-        assert_eq!(rt; got.output.len(), 0);
+        refuse(&rt, &["to-tnef"], &bent, reason, offset)?;
     }
+    refuse(&rt, &["wrap"], &file, Reason::BadSignature, 0)
+}
+
+#[test]
+fn the_high_half_of_a_size(rt: HostRuntime) -> Result<(), Fail> {
+    let file = file_of(&rt, "to-msg", &EMPTY)?;
     let high = changed(&rt, &file, 1788, &[1, 0, 0, 0])?;
-    let stream = file_of(&rt, "to-tnef", &high)?;
-    assert_eq!(rt; stream, file_of(&rt, "to-tnef", &EMPTY)?);
-    let got = run_over(&rt, &["wrap"], &file, &[], &[])?;
-    assert!(rt; is_refused(&got, Reason::BadSignature, 0));
-    Ok(())
+    write(&rt, &["to-tnef"], &high, &file_of(&rt, "to-tnef", &EMPTY)?)
 }
 
 #[test]
@@ -179,16 +164,19 @@ fn entries_of_a_property_list(rt: HostRuntime) -> Result<(), Fail> {
     ];
     for (entry, reason) in &table {
         let bent = changed(&rt, &file, 2592, entry)?;
-        let got = run_over(&rt, &["to-tnef"], &bent, &[], &[])?;
-        assert!(rt; is_refused(&got, *reason, 2592));
-        assert_eq!(rt; got.output.len(), 0);
+        refuse(&rt, &["to-tnef"], &bent, *reason, 2592)?;
     }
+    Ok(())
+}
+
+#[test]
+fn an_empty_text_without_a_stream(rt: HostRuntime) -> Result<(), Fail> {
+    let file = file_of(&rt, "to-msg", &ONE_PROPERTY)?;
     let empty = changed(&rt, &file, 2592, &[0x1f, 0, 0x37, 0, 6, 0, 0, 0, 2])?;
     let list = [
         1, 0, 0, 0, 0x1f, 0, 0x37, 0, 1, 0, 0, 0, 2, 0, 0, 0, 0, 0, 0, 0,
     ];
-    assert_eq!(rt; file_of(&rt, "to-tnef", &empty)?, listed(&rt, &list)?);
-    Ok(())
+    write(&rt, &["to-tnef"], &empty, &listed(&rt, &list)?)
 }
 
 /// A stream with two properties that are named 820D and 820E.
@@ -208,37 +196,19 @@ fn names_in_another_order(rt: HostRuntime) -> Result<(), Fail> {
     for (at, byte) in [(2624, 0x0e), (2632, 0x0d), (2850, 1), (2866, 0)] {
         file = changed(&rt, &file, at, &[byte])?;
     }
-    assert_eq!(rt; file_of(&rt, "to-tnef", &file)?, stream);
-    Ok(())
+    write(&rt, &["to-tnef"], &file, &stream)
 }
 
 #[test]
 fn two_ids_of_one_name(rt: HostRuntime) -> Result<(), Fail> {
     let file = file_of(&rt, "to-msg", &with_two_names(&rt)?)?;
     let bent = changed(&rt, &file, 2632, &[0x0d])?;
-    let got = run_over(&rt, &["to-tnef"], &bent, &[], &[])?;
-    assert!(rt; is_refused(&got, Reason::DuplicateProperty, 2864));
-    assert_eq!(rt; got.output.len(), 0);
-    Ok(())
+    refuse(&rt, &["to-tnef"], &bent, Reason::DuplicateProperty, 2864)
 }
 
 #[test]
-fn streams_that_make_no_file(rt: HostRuntime) -> Result<(), Fail> {
+fn a_stream_that_makes_no_file(rt: HostRuntime) -> Result<(), Fail> {
     let mut other_sum = ONE_PROPERTY;
     other_sum[61] = 0x1e;
-    let got = run_over(&rt, &["to-msg"], &other_sum, &[], &[])?;
-    assert!(rt; is_refused(&got, Reason::BadSum, 61));
-    assert_eq!(rt; got.output.len(), 0);
-    let mut many = ONE_PROPERTY[..40].to_vec(rt.alloc())?;
-    many.extend_from_slice(&[1, 0x04, 0x90, 0x06, 0])?;
-    many.extend_from_slice(&le32(4 + 4 * 2049))?;
-    many.extend_from_slice(&le32(2049))?;
-    for _ in 0..2049 {
-        many.extend_from_slice(&[0; 4])?;
-    }
-    many.extend_from_slice(&[9, 0])?;
-    let got = run_over(&rt, &["to-msg"], &many, &[], &[])?;
-    assert!(rt; matches!(got.status, Status::Unfit(Limit::Recipients(2049))));
-    assert_eq!(rt; got.output.len(), 0);
-    Ok(())
+    refuse(&rt, &["to-msg"], &other_sum, Reason::BadSum, 61)
 }

@@ -1,6 +1,6 @@
 use crate::file_tests::{changed, file_of, place_of};
 use crate::stream_tests::{MESSAGE, listed, nested_over, with_object};
-use crate::tests::{is_refused, run_over};
+use crate::tests::{refuse, write};
 use carrier_io::Reason;
 use std::test::*;
 
@@ -79,8 +79,7 @@ fn lists_across_mini_sectors(rt: HostRuntime) -> Result<(), Fail> {
     let inner = listed(&rt, &FOUR)?;
     let stream = with_object(&rt, 103, &[&MESSAGE, &inner, &[0]])?;
     let file = file_of(&rt, "to-msg", &stream)?;
-    assert_eq!(rt; file_of(&rt, "to-tnef", &file)?, stream);
-    Ok(())
+    write(&rt, &["to-tnef"], &file, &stream)
 }
 
 #[test]
@@ -93,9 +92,7 @@ fn values_in_falling_sectors(rt: HostRuntime) -> Result<(), Fail> {
     let stream = listed(&rt, &list)?;
     let file = file_of(&rt, "to-msg", &stream)?;
     assert_eq!(rt; file.len(), 8192);
-    let other = falling(&rt, &file)?;
-    assert_eq!(rt; file_of(&rt, "to-tnef", &other)?, stream);
-    Ok(())
+    write(&rt, &["to-tnef"], &falling(&rt, &file)?, &stream)
 }
 
 /// A file with an Object, a property of a type that a list does not keep, an empty text without a stream and two red entries.
@@ -119,11 +116,8 @@ fn entries_that_are_passed_over(rt: HostRuntime) -> Result<(), Fail> {
     let list = [
         2, 0, 0, 0, 3, 0, 0x17, 0, 2, 0, 0, 0, 0x1f, 0, 0x37, 0, 1, 0, 0, 0, 2, 0, 0, 0, 0, 0, 0, 0,
     ];
-    assert_eq!(rt;
-        file_of(&rt, "to-tnef", &with_passed_entries(&rt)?)?,
-        listed(&rt, &list)?
-    );
-    Ok(())
+    let file = with_passed_entries(&rt)?;
+    write(&rt, &["to-tnef"], &file, &listed(&rt, &list)?)
 }
 
 #[test]
@@ -131,14 +125,10 @@ fn a_store_without_members(rt: HostRuntime) -> Result<(), Fail> {
     let carried = compound(&rt, &EMPTY_FILE)?;
     let stream = with_object(&rt, 1552, &[&STORAGE, &carried])?;
     assert_eq!(rt; stream.len(), 1659);
-    assert_eq!(rt;
-        file_of(&rt, "to-tnef", &stream)?,
-        stream.to_vec(rt.alloc())?
-    );
+    write(&rt, &["to-tnef"], &stream, &stream)?;
     let file = file_of(&rt, "to-msg", &stream)?;
     assert_eq!(rt; file.len(), 3584);
-    assert_eq!(rt; file_of(&rt, "to-tnef", &file)?, stream);
-    Ok(())
+    write(&rt, &["to-tnef"], &file, &stream)
 }
 
 /// The carried file whose root has one stream without bytes, named U+2345.
@@ -183,10 +173,6 @@ fn a_file_with_a_level_too_many(rt: HostRuntime) -> Result<(), Fail> {
         0x0d, 0, 1, 0x37, 6, 0, 0, 0, 0xff, 0xff, 0xff, 0xff, 4, 0, 0, 0,
     ];
     let place = place_of(&file, &entry).ok_or("an entry")?;
-    for command in ["to-msg", "to-msg4", "to-tnef"] {
-        let got = run_over(&rt, &[command], &deep, &[], &[])?;
-        assert!(rt; is_refused(&got, Reason::TooDeep, place as u64));
-        assert_eq!(rt; got.output.len(), 0);
-    }
-    Ok(())
+    let writers = ["to-msg", "to-msg4", "to-tnef"];
+    refuse(&rt, &writers, &deep, Reason::TooDeep, place as u64)
 }

@@ -1,6 +1,5 @@
-use crate::tests::{is_refused, run_over};
+use crate::tests::{refuse, write};
 use carrier_io::Reason;
-use outlook_status::Status;
 use std::test::*;
 
 /// A TNEF stream without attributes.
@@ -16,47 +15,46 @@ const MIXED: &[u8] =
 
 #[test]
 fn streams_go_into_mails(rt: HostRuntime) -> Result<(), Fail> {
-    let got = run_over(&rt, &["wrap"], &STREAM, &[], &[])?;
-    assert!(rt; matches!(got.status, Status::Done));
-    assert_eq!(rt; got.output.as_slice(), &MAIL[..]);
-    Ok(())
+    write(&rt, &["wrap"], &STREAM, &MAIL)
 }
 
 #[test]
 fn streams_come_out_of_mails(rt: HostRuntime) -> Result<(), Fail> {
+    write(&rt, &["unwrap"], &MAIL, &STREAM)?;
     let mut mixed = MIXED.to_vec(rt.alloc())?;
     mixed.extend_from_slice(b"--b1--\n")?;
-    for input in [&MAIL[..], mixed.as_slice()] {
-        let got = run_over(&rt, &["unwrap"], input, &[], &[])?;
-        assert!(rt; matches!(got.status, Status::Done));
-        assert_eq!(rt; got.output.as_slice(), &STREAM[..]);
-    }
-    Ok(())
+    write(&rt, &["unwrap"], &mixed, &STREAM)
+}
+
+/// A mail without the bytes from one place up to another.
+fn without(rt: &HostRuntime, mail: &[u8], from: usize, to: usize) -> Result<Vec<u8>, Fail> {
+    let mut rest = mail.get(..from).ok_or("a front")?.to_vec(rt.alloc())?;
+    rest.extend_from_slice(mail.get(to..).ok_or("an end")?)?;
+    Ok(rest)
+}
+
+#[test]
+fn mails_without_a_character(rt: HostRuntime) -> Result<(), Fail> {
+    let less = without(&rt, &MAIL, 175, 176)?;
+    refuse(&rt, &["unwrap"], &less, Reason::BadPadding, 177)?;
+    let unencoded = without(&rt, &MAIL, 73, 108)?;
+    refuse(&rt, &["unwrap"], &unencoded, Reason::NotBase64, 133)?;
+    let unbounded = without(&rt, MIXED, 29, 44)?;
+    refuse(&rt, &["unwrap"], &unbounded, Reason::BadBoundary, 0)
 }
 
 #[test]
 fn mails_are_refused(rt: HostRuntime) -> Result<(), Fail> {
-    let mut other_character = MAIL;
-    other_character[175] = b'*';
-    let mut one_less = MAIL[..175].to_vec(rt.alloc())?;
-    one_less.extend_from_slice(&MAIL[176..])?;
-    let mut unencoded = MAIL[..73].to_vec(rt.alloc())?;
-    unencoded.extend_from_slice(&MAIL[108..])?;
-    let mut unbounded = MIXED[..29].to_vec(rt.alloc())?;
-    unbounded.extend_from_slice(&MIXED[44..])?;
+    let mut other = MAIL;
+    other[175] = b'*';
     let table = [
-        (&other_character[..], Reason::BadBase64, 175),
-        (one_less.as_slice(), Reason::BadPadding, 177),
-        (unencoded.as_slice(), Reason::NotBase64, 133),
-        (unbounded.as_slice(), Reason::BadBoundary, 0),
+        (&other[..], Reason::BadBase64, 175),
         (&b" Subject: report\n\n"[..], Reason::BadHeaderLine, 0),
         (MIXED, Reason::MissingClose, 186),
         (&b"Subject: report\n\nhello\n"[..], Reason::NoTnefPart, 0),
     ];
     for (input, reason, offset) in table {
-        let got = run_over(&rt, &["unwrap"], input, &[], &[])?;
-        assert!(rt; is_refused(&got, reason, offset));
-        assert_eq!(rt; got.output.len(), 0);
+        refuse(&rt, &["unwrap"], input, reason, offset)?;
     }
     Ok(())
 }

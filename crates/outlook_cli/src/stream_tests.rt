@@ -1,8 +1,6 @@
 use crate::file_tests::file_of;
-use crate::tests::{is_refused, run_over};
+use crate::tests::{ends, refuse, write};
 use carrier_io::{Reason, le16, le32, le64};
-use msg_tree::Limit;
-use outlook_status::Status;
 use std::test::*;
 
 /// A signature, the key 1, the version and the code page 1252.
@@ -80,124 +78,147 @@ fn nested(rt: &HostRuntime, levels: u32) -> Result<Vec<u8>, Fail> {
     nested_over(rt, &listed(rt, &[0, 0, 0, 0])?, levels)
 }
 
+/// A list of texts in 16-bit units, a list of a text with two nulls, and one of a number by name.
+const TEXTS: [u8; 28] = [
+    1, 0, 0, 0, 0x1f, 0x10, 0x34, 0x12, 2, 0, 0, 0, 4, 0, 0, 0, 0x41, 0, 0, 0, 2, 0, 0, 0, 0, 0, 0,
+    0,
+];
+
+const NULLS: [u8; 24] = [
+    1, 0, 0, 0, 0x1f, 0, 0x37, 0, 1, 0, 0, 0, 6, 0, 0, 0, 0x41, 0, 0, 0, 0, 0, 0, 0,
+];
+
+/// A list with the one named property, which has an id of its own.
+fn named_by(rt: &HostRuntime, id: [u8; 2]) -> Result<Vec<u8>, Fail> {
+    let mut list = Vec::from_slice(rt.alloc(), &[1, 0, 0, 0, 3, 0])?;
+    list.extend_from_slice(&id)?;
+    list.extend_from_slice(&NAMED[4..])?;
+    listed(rt, &list)
+}
+
+/// A canonical stream stays as it is, also by way of a .msg file of either version.
+fn stays(rt: &HostRuntime, input: &[u8]) -> Result<(), Fail> {
+    write(rt, &["to-tnef"], input, input)?;
+    for command in ["to-msg", "to-msg4"] {
+        write(rt, &["to-tnef"], &file_of(rt, command, input)?, input)?;
+    }
+    Ok(())
+}
+
 #[test]
 fn canonical_streams_stay(rt: HostRuntime) -> Result<(), Fail> {
-    let texts = [
-        1, 0, 0, 0, 0x1f, 0x10, 0x34, 0x12, 2, 0, 0, 0, 4, 0, 0, 0, 0x41, 0, 0, 0, 2, 0, 0, 0, 0,
-        0, 0, 0,
-    ];
-    let nulls = [
-        1, 0, 0, 0, 0x1f, 0, 0x37, 0, 1, 0, 0, 0, 6, 0, 0, 0, 0x41, 0, 0, 0, 0, 0, 0, 0,
-    ];
-    let mut named = Vec::from_slice(rt.alloc(), &[1, 0, 0, 0])?;
-    named.extend_from_slice(&NAMED)?;
-    let table = [
-        listed(&rt, &texts)?,
-        listed(&rt, &nulls)?,
-        listed(&rt, &named)?,
-        nested(&rt, 1)?,
-        nested(&rt, 32)?,
-    ];
-    for input in &table {
-        let got = run_over(&rt, &["to-tnef"], input, &[], &[])?;
-        assert!(rt; matches!(got.status, Status::Done));
-        assert_eq!(rt; got.output.as_slice(), input.as_slice());
-        assert_eq!(rt; got.report.len(), 0);
-    }
-    for (command, input) in [("to-msg", &table[1]), ("to-msg4", &table[4])] {
-        let file = file_of(&rt, command, input)?;
-        assert_eq!(rt; &file_of(&rt, "to-tnef", &file)?, input);
-    }
-    Ok(())
+    stays(&rt, &listed(&rt, &TEXTS)?)?;
+    stays(&rt, &listed(&rt, &NULLS)?)?;
+    stays(&rt, &named_by(&rt, [0, 0x80])?)?;
+    stays(&rt, &nested(&rt, 1)?)?;
+    stays(&rt, &nested(&rt, 32)?)
+}
+
+/// Noon of the 29th of February 2024.
+const DATE: [u8; 14] = [0xe8, 7, 2, 0, 0x1d, 0, 0x0c, 0, 0, 0, 0, 0, 4, 0];
+
+#[test]
+fn names_get_the_ids_of_their_order(rt: HostRuntime) -> Result<(), Fail> {
+    let other = named_by(&rt, [0x65, 0x87])?;
+    write(&rt, &["to-tnef"], &other, &named_by(&rt, [0, 0x80])?)
 }
 
 #[test]
-fn other_streams_become_canonical(rt: HostRuntime) -> Result<(), Fail> {
-    let mut named = Vec::from_slice(rt.alloc(), &[1, 0, 0, 0])?;
-    named.extend_from_slice(&NAMED)?;
-    let mut other_id = Vec::from_slice(rt.alloc(), &[1, 0, 0, 0, 3, 0, 0x65, 0x87])?;
-    other_id.extend_from_slice(&NAMED[4..])?;
-    let date = [0xe8, 7, 2, 0, 0x1d, 0, 0x0c, 0, 0, 0, 0, 0, 4, 0];
-    let no_date = [0xe7, 7, 2, 0, 0x1d, 0, 0x0c, 0, 0, 0, 0, 0, 4, 0];
+fn dates_of_older_attributes(rt: HostRuntime) -> Result<(), Fail> {
     let mut sent = Vec::from_slice(rt.alloc(), &[1, 0, 0, 0, 0x40, 0, 0x39, 0])?;
     sent.extend_from_slice(&le64(133_536_816_000_000_000))?;
-    let binary = [1, 0, 0, 0, 2, 1, 0x39, 0, 1, 0, 0, 0, 0, 0, 0, 0];
-    let mut both = stream(&rt, 0x0003_8005, &date)?;
-    attribute(&mut both, 1, 0x0006_9003, &binary)?;
-    let table = [
-        (listed(&rt, &other_id)?, listed(&rt, &named)?),
-        (stream(&rt, 0x0003_8005, &date)?, listed(&rt, &sent)?),
-        (stream(&rt, 0x0003_8005, &no_date)?, listed(&rt, &[0; 4])?),
-        (both, listed(&rt, &binary)?),
-    ];
-    for (input, wanted) in &table {
-        let got = run_over(&rt, &["to-tnef"], input, &[], &[])?;
-        assert!(rt; matches!(got.status, Status::Done));
-        assert_eq!(rt; got.output.as_slice(), wanted.as_slice());
-    }
-    Ok(())
+    let wanted = listed(&rt, &sent)?;
+    write(
+        &rt,
+        &["to-tnef"],
+        &stream(&rt, 0x0003_8005, &DATE)?,
+        &wanted,
+    )?;
+    let mut no_date = DATE;
+    no_date[0] = 0xe7;
+    let nothing = listed(&rt, &[0; 4])?;
+    write(
+        &rt,
+        &["to-tnef"],
+        &stream(&rt, 0x0003_8005, &no_date)?,
+        &nothing,
+    )
 }
 
 #[test]
-fn faults_in_lists_and_streams(rt: HostRuntime) -> Result<(), Fail> {
-    let kind_two = [
-        1, 0, 0, 0, 3, 0, 0, 0x80, 2, 0x20, 6, 0, 0, 0, 0, 0, 0xc0, 0, 0, 0, 0, 0, 0, 0x46, 2, 0,
-        0, 0, 0x0d, 0x82, 0, 0, 1, 0, 0, 0,
-    ];
-    let one = [1, 0, 0, 0, 3, 0, 0x17, 0, 2, 0, 0, 0];
-    let mut twice = listed(&rt, &one)?;
-    attribute(&mut twice, 1, 0x0006_9003, &one)?;
+fn a_date_beside_a_list_that_has_its_id(rt: HostRuntime) -> Result<(), Fail> {
+    let binary = [1, 0, 0, 0, 2, 1, 0x39, 0, 1, 0, 0, 0, 0, 0, 0, 0];
+    let mut both = stream(&rt, 0x0003_8005, &DATE)?;
+    attribute(&mut both, 1, 0x0006_9003, &binary)?;
+    write(&rt, &["to-tnef"], &both, &listed(&rt, &binary)?)
+}
+
+/// The commands that take a TNEF stream and write nothing of one with a fault.
+const READERS: [&str; 6] = ["to-tnef", "to-msg", "to-msg4", "wrap", "show", "check"];
+
+/// A list with a name that is neither a number nor a text, and a list with the property 0017.
+const KIND_TWO: [u8; 36] = [
+    1, 0, 0, 0, 3, 0, 0, 0x80, 2, 0x20, 6, 0, 0, 0, 0, 0, 0xc0, 0, 0, 0, 0, 0, 0, 0x46, 2, 0, 0, 0,
+    0x0d, 0x82, 0, 0, 1, 0, 0, 0,
+];
+
+const ONE: [u8; 12] = [1, 0, 0, 0, 3, 0, 0x17, 0, 2, 0, 0, 0];
+
+#[test]
+fn faults_in_streams(rt: HostRuntime) -> Result<(), Fail> {
+    let kind_two = listed(&rt, &KIND_TWO)?;
+    refuse(&rt, &READERS, &kind_two, Reason::BadNameKind, 73)?;
+    let mut twice = listed(&rt, &ONE)?;
+    attribute(&mut twice, 1, 0x0006_9003, &ONE)?;
+    refuse(&rt, &READERS, &twice, Reason::DoubleAttribute, 63)?;
     let mut lone = Vec::from_slice(rt.alloc(), &FRONT)?;
     attribute(&mut lone, 2, 0x0006_9005, &[0; 4])?;
-    let mut wrong_sum = FRONT;
-    wrong_sum[38] = 0xe9;
-    let table = [
-        (listed(&rt, &kind_two)?, Reason::BadNameKind, 73),
-        (twice, Reason::DoubleAttribute, 63),
-        (lone, Reason::NoAttachment, 40),
-        (with_object(&rt, 15, &[&[0; 16]])?, Reason::BadSize, 101),
-        (
-            with_object(&rt, 16, &[&[0; 16]])?,
-            Reason::BadInterface,
-            105,
-        ),
-        (
-            with_object(&rt, 56, &[&MESSAGE, &wrong_sum])?,
-            Reason::BadSum,
-            159,
-        ),
-        (nested(&rt, 33)?, Reason::TooDeep, 3977),
-    ];
-    for (input, reason, offset) in &table {
-        for command in ["to-tnef", "to-msg", "to-msg4", "wrap", "show", "check"] {
-            let got = run_over(&rt, &[command], input, &[], &[])?;
-            assert!(rt; is_refused(&got, *reason, *offset));
-            assert_eq!(rt; got.output.len(), 0);
-        }
-    }
-    Ok(())
+    refuse(&rt, &READERS, &lone, Reason::NoAttachment, 40)
 }
 
 #[test]
-fn many_recipients_and_too_many_names(rt: HostRuntime) -> Result<(), Fail> {
-    let mut lists = Vec::from_slice(rt.alloc(), &le32(2049))?;
-    for _ in 0..2049 {
+fn faults_in_objects(rt: HostRuntime) -> Result<(), Fail> {
+    let small = with_object(&rt, 15, &[&[0; 16]])?;
+    refuse(&rt, &READERS, &small, Reason::BadSize, 101)?;
+    let other = with_object(&rt, 16, &[&[0; 16]])?;
+    refuse(&rt, &READERS, &other, Reason::BadInterface, 105)?;
+    let mut wrong_sum = FRONT;
+    wrong_sum[38] = 0xe9;
+    let inner = with_object(&rt, 56, &[&MESSAGE, &wrong_sum])?;
+    refuse(&rt, &READERS, &inner, Reason::BadSum, 159)?;
+    refuse(&rt, &READERS, &nested(&rt, 33)?, Reason::TooDeep, 3977)
+}
+
+/// A stream with so many recipients without properties.
+pub(crate) fn with_recipients(rt: &HostRuntime, count: u32) -> Result<Vec<u8>, Fail> {
+    let mut lists = Vec::from_slice(rt.alloc(), &le32(count))?;
+    for _ in 0..count {
         lists.extend_from_slice(&[0; 4])?;
     }
-    let input = stream(&rt, 0x0006_9004, &lists)?;
-    let got = run_over(&rt, &["to-tnef"], &input, &[], &[])?;
-    assert!(rt; matches!(got.status, Status::Done));
-    let mut named = Vec::from_slice(rt.alloc(), &le32(32_001))?;
-    for number in 0..32_001 {
+    stream(rt, 0x0006_9004, &lists)
+}
+
+#[test]
+fn many_recipients(rt: HostRuntime) -> Result<(), Fail> {
+    let input = with_recipients(&rt, 2049)?;
+    let canonical = file_of(&rt, "to-tnef", &input)?;
+    write(&rt, &["to-tnef"], &canonical, &canonical)?;
+    ends(&rt, &["to-msg"], &input, 3, b"unfit Recipients 2049\n")
+}
+
+/// A stream with so many properties, each of a name of its own.
+fn with_names(rt: &HostRuntime, count: u32) -> Result<Vec<u8>, Fail> {
+    let mut named = Vec::from_slice(rt.alloc(), &le32(count))?;
+    for number in 0..count {
         named.extend_from_slice(&NAMED[..24])?;
         named.extend_from_slice(&le32(number))?;
         named.extend_from_slice(&[1, 0, 0, 0])?;
     }
-    let input = listed(&rt, &named)?;
-    let got = run_over(&rt, &["to-tnef"], &input, &[], &[])?;
-    assert!(rt; matches!(got.status, Status::Unfit(Limit::Names(32_001))));
-    assert_eq!(rt; got.status.code(), 3);
-    assert_eq!(rt; got.output.len(), 0);
-    assert_eq!(rt; got.report.as_slice(), &b"unfit Names 32001\n"[..]);
-    Ok(())
+    listed(rt, &named)
+}
+
+#[test]
+fn too_many_names(rt: HostRuntime) -> Result<(), Fail> {
+    let input = with_names(&rt, 32_001)?;
+    ends(&rt, &["to-tnef"], &input, 3, b"unfit Names 32001\n")
 }

@@ -1,41 +1,34 @@
 use crate::file_tests::file_of;
 use crate::layout_tests::with_passed_entries;
 use crate::stream_tests::{NAMED, listed};
-use crate::tests::{ONE_PROPERTY, run_over};
+use crate::tests::{ONE_PROPERTY, ends, run_over, write};
 use std::test::*;
 
 #[test]
 fn messages_are_shown(rt: HostRuntime) -> Result<(), Fail> {
+    let one = b"message\n  0017 Integer32 2\n";
+    write(&rt, &["show"], &ONE_PROPERTY, one)
+}
+
+#[test]
+fn a_name_is_shown(rt: HostRuntime) -> Result<(), Fail> {
     let mut list = Vec::from_slice(rt.alloc(), &[1, 0, 0, 0, 0x40, 0, 0, 0x80])?;
     list.extend_from_slice(&NAMED[4..28])?;
     list.extend_from_slice(&[1, 0, 0, 0, 0, 0, 0, 0])?;
     let moment = listed(&rt, &list)?;
-    let file = file_of(&rt, "to-msg", &moment)?;
-    let one = &b"message\n  0017 Integer32 2\n"[..];
-    let named = &b"message\n  PSETID_Appointment/0000820D Time 1\n"[..];
-    for (input, text) in [
-        (&ONE_PROPERTY[..], one),
-        (&moment[..], named),
-        (&file[..], named),
-    ] {
-        let got = run_over(&rt, &["show"], input, &[], &[])?;
-        assert_eq!(rt; got.output.as_slice(), text);
-    }
-    Ok(())
+    let named = b"message\n  PSETID_Appointment/0000820D Time 1\n";
+    write(&rt, &["show"], &moment, named)?;
+    write(&rt, &["show"], &file_of(&rt, "to-msg", &moment)?, named)
 }
 
 #[test]
 fn messages_are_checked(rt: HostRuntime) -> Result<(), Fail> {
     let stream =
         b"carrier tnef\nmessages 1\nrecipients 0\nattachments 0\nproperties 1\nnames 0\ndepth 0\n";
+    write(&rt, &["check"], &ONE_PROPERTY, stream)?;
     let file =
         b"carrier msg\nmessages 1\nrecipients 0\nattachments 0\nproperties 2\nnames 0\ndepth 0\npassed property 0E12000D at 2608\npassed property 674000FB at 2624\n";
-    let passed = with_passed_entries(&rt)?;
-    for (input, text) in [(&ONE_PROPERTY[..], &stream[..]), (&passed[..], &file[..])] {
-        let got = run_over(&rt, &["check"], input, &[], &[])?;
-        assert_eq!(rt; got.output.as_slice(), text);
-    }
-    Ok(())
+    write(&rt, &["check"], &with_passed_entries(&rt)?, file)
 }
 
 /// The JSON text of a message with the property 0017, the same with it twice, and with a value that is too large.
@@ -50,11 +43,9 @@ const LARGE: &[u8] =
 
 #[test]
 fn messages_as_json(rt: HostRuntime) -> Result<(), Fail> {
-    let got = run_over(&rt, &["to-json"], &ONE_PROPERTY, &[], &[])?;
-    assert_eq!(rt; got.output.as_slice(), ONE_JSON);
+    write(&rt, &["to-json"], &ONE_PROPERTY, ONE_JSON)?;
     let file = file_of(&rt, "to-msg", &ONE_PROPERTY)?;
-    assert_eq!(rt; file_of(&rt, "from-json", ONE_JSON)?, file);
-    Ok(())
+    write(&rt, &["from-json"], ONE_JSON, &file)
 }
 
 #[test]
@@ -66,10 +57,7 @@ fn json_of_no_message(rt: HostRuntime) -> Result<(), Fail> {
         (&b"{"[..], &b"json NotJson at /\n"[..]),
     ];
     for (text, line) in table {
-        let got = run_over(&rt, &["from-json"], text, &[], &[])?;
-        assert_eq!(rt; got.status.code(), 8);
-        assert_eq!(rt; got.output.len(), 0);
-        assert_eq!(rt; got.report.as_slice(), line);
+        ends(&rt, &["from-json"], text, 8, line)?;
     }
     Ok(())
 }

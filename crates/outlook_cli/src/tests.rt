@@ -60,38 +60,71 @@ pub(crate) fn run_over(
     })
 }
 
-#[test]
-fn streams_are_translated_or_refused(rt: HostRuntime) -> Result<(), Fail> {
-    let alloc = rt.alloc();
-    let empty = [0x78, 0x9f, 0x3e, 0x22, 0x00, 0x00];
-    let mut without = ONE_PROPERTY[..40].to_vec(alloc)?;
-    without.extend_from_slice(&NO_PROPERTIES)?;
-    let mut other_sum = ONE_PROPERTY;
-    other_sum[61] = 0x1e;
-    let table = [
-        (&ONE_PROPERTY[..], 0, &ONE_PROPERTY[..], &b""[..]),
-        (&empty[..], 0, &without[..], &b""[..]),
-        (&[][..], 1, &[][..], &b"refused 1 NotACarrier at 0\n"[..]),
-        (
-            &other_sum[..],
-            1,
-            &[][..],
-            &b"refused 63 BadSum at 61\n"[..],
-        ),
-        (
-            &ONE_PROPERTY[..62],
-            1,
-            &[][..],
-            &b"refused 62 Truncated at 61\n"[..],
-        ),
-    ];
-    for (input, code, output, report) in table {
-        let got = run_over(&rt, &["to-tnef"], input, &[], &[])?;
-        assert_eq!(rt; got.status.code(), code);
-        assert_eq!(rt; got.output.as_slice(), output);
-        assert_eq!(rt; got.report.as_slice(), report);
+/// What is not so fails the test.
+pub(crate) fn holds(fact: bool, what: &'static str) -> Result<(), Fail> {
+    if fact { Ok(()) } else { Err(what.into()) }
+}
+
+/// Words over an input have to end with a code and a line, and write nothing.
+pub(crate) fn ends(
+    rt: &HostRuntime,
+    words: &[&str],
+    input: &[u8],
+    code: u8,
+    line: &[u8],
+) -> Result<(), Fail> {
+    let got = run_over(rt, words, input, &[], &[])?;
+    holds(got.status.code() == code, "another code")?;
+    holds(got.report.as_slice() == line, "another line")?;
+    holds(got.output.is_empty(), "something was written")
+}
+
+/// Each of some commands has to refuse an input for a reason at an offset, and to write nothing.
+pub(crate) fn refuse(
+    rt: &HostRuntime,
+    commands: &[&str],
+    input: &[u8],
+    reason: Reason,
+    offset: u64,
+) -> Result<(), Fail> {
+    for command in commands {
+        let got = run_over(rt, &[*command], input, &[], &[])?;
+        holds(is_refused(&got, reason, offset), "another fault or none")?;
+        holds(got.output.is_empty(), "something was written")?;
     }
     Ok(())
+}
+
+/// Words over an input have to write these bytes and to report nothing.
+pub(crate) fn write(
+    rt: &HostRuntime,
+    words: &[&str],
+    input: &[u8],
+    wanted: &[u8],
+) -> Result<(), Fail> {
+    let got = run_over(rt, words, input, &[], &[])?;
+    holds(got.status.code() == 0, "no success")?;
+    holds(got.output.as_slice() == wanted, "other bytes")?;
+    holds(got.report.is_empty(), "something was reported")
+}
+
+#[test]
+fn streams_are_translated(rt: HostRuntime) -> Result<(), Fail> {
+    write(&rt, &["to-tnef"], &ONE_PROPERTY, &ONE_PROPERTY)?;
+    let mut without = ONE_PROPERTY[..40].to_vec(rt.alloc())?;
+    without.extend_from_slice(&NO_PROPERTIES)?;
+    let empty = [0x78, 0x9f, 0x3e, 0x22, 0x00, 0x00];
+    write(&rt, &["to-tnef"], &empty, &without)
+}
+
+#[test]
+fn streams_are_refused(rt: HostRuntime) -> Result<(), Fail> {
+    ends(&rt, &["to-tnef"], &[], 1, b"refused 1 NotACarrier at 0\n")?;
+    let mut sum = ONE_PROPERTY;
+    sum[61] = 0x1e;
+    ends(&rt, &["to-tnef"], &sum, 1, b"refused 63 BadSum at 61\n")?;
+    let cut = &ONE_PROPERTY[..62];
+    ends(&rt, &["to-tnef"], cut, 1, b"refused 62 Truncated at 61\n")
 }
 
 #[test]

@@ -1,6 +1,6 @@
 use crate::held::Held;
 use crate::whole::read_tnef;
-use carrier_io::{Reason, Stop, le16, le32};
+use carrier_io::{Fault, Reason, Stop, le16, le32};
 use msg_tree::depth;
 use prop_names::Key;
 use prop_values::{Kind, Props, Value};
@@ -76,15 +76,23 @@ fn number_of(props: &Props<Held<'_>>, id: u16, kind: Kind) -> Option<u64> {
     }
 }
 
-fn fault_of(rt: &HostRuntime, stream: &[u8]) -> Result<(Reason, u64), Fail> {
+/// The stream has to be refused for the reason at the offset.
+fn refused(rt: &HostRuntime, stream: &[u8], reason: Reason, offset: u64) -> Result<(), Fail> {
     if stream.len() > 268_435_456 {
         return Err("too long".into());
     }
     match read_tnef(rt.alloc(), stream) {
-        Err(Stop::Fault(fault)) => Ok((fault.reason, fault.offset)),
-        Err(Stop::NoMemory) => Err("no memory".into()),
+        Err(Stop::Fault(fault)) if fault == Fault { reason, offset } => Ok(()),
+        Err(_) => Err("another end".into()),
         Ok(_) => Err("a message".into()),
     }
+}
+
+/// The front, and an attribute.
+fn with_attribute(rt: &HostRuntime, level: u8, id: u32, value: &[u8]) -> Result<Vec<u8>, Fail> {
+    let mut out = Vec::from_slice(rt.alloc(), &FRONT)?;
+    attribute(&mut out, level, id, value)?;
+    Ok(out)
 }
 
 #[test]
@@ -101,46 +109,44 @@ fn a_stream_is_read(rt: HostRuntime) -> Result<(), Fail> {
     Ok(())
 }
 
+/// The value of a list with a name that is neither a number nor a text.
+const KIND_TWO: [u8; 36] = [
+    1, 0, 0, 0, 3, 0, 0, 0x80, 8, 0x20, 6, 0, 0, 0, 0, 0, 0xc0, 0, 0, 0, 0, 0, 0, 0x46, 2, 0, 0, 0,
+    0, 0, 0, 0, 0, 0, 0, 0,
+];
+
 #[test]
-fn faults_of_streams(rt: HostRuntime) -> Result<(), Fail> {
-    let mut named = Vec::from_slice(rt.alloc(), &FRONT)?;
-    let kind_two = [
-        1, 0, 0, 0, 3, 0, 0, 0x80, 8, 0x20, 6, 0, 0, 0, 0, 0, 0xc0, 0, 0, 0, 0, 0, 0, 0x46, 2, 0,
-        0, 0, 0, 0, 0, 0, 0, 0, 0, 0,
-    ];
-    attribute(&mut named, 1, 0x0006_9003, &kind_two)?;
+fn faults_of_attributes(rt: HostRuntime) -> Result<(), Fail> {
+    let named = with_attribute(&rt, 1, 0x0006_9003, &KIND_TWO)?;
+    refused(&rt, &named, Reason::BadNameKind, 73)?;
     let mut twice = Vec::from_slice(rt.alloc(), &FRONT)?;
     twice.extend_from_slice(&ONE)?;
     twice.extend_from_slice(&ONE)?;
-    let mut lone = Vec::from_slice(rt.alloc(), &FRONT)?;
-    attribute(&mut lone, 2, 0x0006_9005, &[0, 0, 0, 0])?;
-    let mut subjects = Vec::from_slice(rt.alloc(), &FRONT)?;
-    attribute(&mut subjects, 1, 0x0001_8004, b"one")?;
+    refused(&rt, &twice, Reason::DoubleAttribute, 63)?;
+    let lone = with_attribute(&rt, 2, 0x0006_9005, &[0; 4])?;
+    refused(&rt, &lone, Reason::NoAttachment, 40)
+}
+
+#[test]
+fn a_subject_that_comes_again(rt: HostRuntime) -> Result<(), Fail> {
+    let mut subjects = with_attribute(&rt, 1, 0x0001_8004, b"one")?;
     attribute(&mut subjects, 1, 0x0001_8004, b"two")?;
+    refused(&rt, &subjects, Reason::DoubleAttribute, 54)
+}
+
+#[test]
+fn faults_of_objects(rt: HostRuntime) -> Result<(), Fail> {
+    let small = with_object(&rt, 15, &[&[0; 16]])?;
+    refused(&rt, &small, Reason::BadSize, 101)?;
+    let other = with_object(&rt, 16, &[&[0; 16]])?;
+    refused(&rt, &other, Reason::BadInterface, 105)?;
+    let storage = with_object(&rt, 16, &[&STORAGE])?;
+    refused(&rt, &storage, Reason::FileTruncated, 121)?;
     let mut wrong_sum = FRONT;
     wrong_sum[38] = 0xe9;
-    let small = with_object(&rt, 15, &[&[0; 16]])?;
-    let other = with_object(&rt, 16, &[&[0; 16]])?;
-    let storage = with_object(&rt, 16, &[&STORAGE])?;
     let inner = with_object(&rt, 79, &[&MESSAGE, &wrong_sum, &ONE, &[0]])?;
-    let deep = nested(&rt, 33)?;
-    let table: [(&[u8], Reason, u64); 9] = [
-        (&named, Reason::BadNameKind, 73),
-        (&twice, Reason::DoubleAttribute, 63),
-        (&lone, Reason::NoAttachment, 40),
-        (&subjects, Reason::DoubleAttribute, 54),
-        (&small, Reason::BadSize, 101),
-        (&other, Reason::BadInterface, 105),
-        (&storage, Reason::FileTruncated, 121),
-        (&inner, Reason::BadSum, 159),
-        (&deep, Reason::TooDeep, 3977),
-    ];
-    for (stream, reason, offset) in &table {
-        let (found, place) = fault_of(&rt, stream)?;
-        assert_eq!(rt; found, *reason);
-        assert_eq!(rt; place, *offset);
-    }
-    Ok(())
+    refused(&rt, &inner, Reason::BadSum, 159)?;
+    refused(&rt, &nested(&rt, 33)?, Reason::TooDeep, 3977)
 }
 
 #[test]
@@ -152,21 +158,26 @@ fn streams_in_streams(rt: HostRuntime) -> Result<(), Fail> {
     Ok(())
 }
 
+/// Noon of the 29th of February 2024.
+const DATE: [u8; 14] = [0xe8, 7, 2, 0, 0x1d, 0, 0x0c, 0, 0, 0, 0, 0, 4, 0];
+
 #[test]
-fn dates_and_lists(rt: HostRuntime) -> Result<(), Fail> {
-    let date = [0xe8, 7, 2, 0, 0x1d, 0, 0x0c, 0, 0, 0, 0, 0, 4, 0];
-    let mut stream = Vec::from_slice(rt.alloc(), &FRONT)?;
-    attribute(&mut stream, 1, 0x0003_8005, &date)?;
+fn a_date_is_a_time(rt: HostRuntime) -> Result<(), Fail> {
+    let stream = with_attribute(&rt, 1, 0x0003_8005, &DATE)?;
     assert!(rt; stream.len() <= 1000);
-    let dated = read_tnef(rt.alloc(), &stream).ok().ok_or("a message")?;
-    let props = &dated.tree.top().props;
-    let sent = number_of(props, 0x0039, Kind::Time).ok_or("a time")?;
+    let accepted = read_tnef(rt.alloc(), &stream).ok().ok_or("a message")?;
+    let sent = number_of(&accepted.tree.top().props, 0x0039, Kind::Time).ok_or("a time")?;
     assert_eq!(rt; sent, 133_536_816_000_000_000);
-    let mut listed = Vec::from_slice(rt.alloc(), &stream)?;
+    Ok(())
+}
+
+#[test]
+fn a_list_before_a_date(rt: HostRuntime) -> Result<(), Fail> {
+    let mut stream = with_attribute(&rt, 1, 0x0003_8005, &DATE)?;
     let list = [1, 0, 0, 0, 2, 1, 0x39, 0, 1, 0, 0, 0, 0, 0, 0, 0];
-    attribute(&mut listed, 1, 0x0006_9003, &list)?;
-    assert!(rt; listed.len() <= 1000);
-    let accepted = read_tnef(rt.alloc(), &listed).ok().ok_or("a message")?;
+    attribute(&mut stream, 1, 0x0006_9003, &list)?;
+    assert!(rt; stream.len() <= 1000);
+    let accepted = read_tnef(rt.alloc(), &stream).ok().ok_or("a message")?;
     let props = &accepted.tree.top().props;
     assert_eq!(rt; props.len(), 1);
     let kept = bytes_of(props, 0x0039, Kind::Binary).ok_or("bytes")?;
