@@ -11,17 +11,19 @@ const PROPERTIES: &str = "__properties_version1.0";
 
 /// Writes a number in four bytes.
 fn put(file: &mut Vec<u8>, at: u32, value: u32) {
-    for (i, byte) in value.to_le_bytes().iter().enumerate() {
-        if let Some(slot) = file.get_mut(at as usize + i) {
-            *slot = *byte;
+    let at = at as usize;
+    if at < file.len() {
+        for (slot, byte) in file[at..].iter_mut().zip(value.to_le_bytes()) {
+            *slot = byte;
         }
     }
 }
 
 /// Writes a name, each character in two bytes.
 fn put_name(file: &mut Vec<u8>, at: u32, name: &[u8; 23]) {
-    for (i, byte) in name.iter().enumerate() {
-        if let Some(slot) = file.get_mut(at as usize + 2 * i) {
+    let at = at as usize;
+    if at < file.len() {
+        for (slot, byte) in file[at..].iter_mut().step_by(2).zip(name) {
             *slot = *byte;
         }
     }
@@ -173,8 +175,8 @@ fn changes(rt: HostRuntime) -> Result<(), Fail> {
     ];
     for (at, value, reason, offset) in rows {
         let fault = refusal(rt.alloc(), (at, value), (at, value), 3072)?.ok_or("a fault")?;
-        assert_eq!(rt; fault.reason, reason, "at {at}");
-        assert_eq!(rt; fault.offset, offset, "at {at}");
+        assert_eq!(rt; fault.reason, reason);
+        assert_eq!(rt; fault.offset, offset);
     }
     Ok(())
 }
@@ -190,8 +192,8 @@ fn pairs_and_cuts(rt: HostRuntime) -> Result<(), Fail> {
     ];
     for (first, second, len, reason, offset) in rows {
         let fault = refusal(rt.alloc(), first, second, len)?.ok_or("a fault")?;
-        assert_eq!(rt; fault.reason, reason, "{len} bytes");
-        assert_eq!(rt; fault.offset, offset, "{len} bytes");
+        assert_eq!(rt; fault.reason, reason);
+        assert_eq!(rt; fault.offset, offset);
     }
     assert!(rt; refusal(rt.alloc(), same, same, 2624)?.is_none());
     Ok(())
@@ -226,8 +228,8 @@ fn versions(rt: HostRuntime) -> Result<(), Fail> {
     ];
     for (change, len, reason, offset) in rows {
         let fault = refusal4(rt.alloc(), change, len)?.ok_or("a fault")?;
-        assert_eq!(rt; fault.reason, reason, "{len} bytes");
-        assert_eq!(rt; fault.offset, offset, "{len} bytes");
+        assert_eq!(rt; fault.reason, reason);
+        assert_eq!(rt; fault.offset, offset);
     }
     assert!(rt; refusal4(rt.alloc(), (32, 6), 20_480)?.is_none());
     let high = (1788, 1);
