@@ -80,7 +80,11 @@ fn names_in_order(rt: HostRuntime) -> Result<(), Fail> {
         set: APPOINTMENT,
         number: 0x820d,
     };
-    let word = text(rt.alloc(), APPOINTMENT, &[0x41])?;
+    let mut units = Units::new(rt.alloc());
+    units.push(0x41).ok().ok_or("no memory")?;
+    let word = Name::of_text(rt.alloc(), APPOINTMENT, units)
+        .ok()
+        .ok_or("no memory")?;
     assert_eq!(rt; number.order(&word), Ordering::Less);
     let mut set = NameSet::new(rt.alloc());
     set.insert(&word).ok().ok_or("no memory")?;
