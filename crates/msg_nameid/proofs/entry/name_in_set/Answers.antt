@@ -1,4 +1,4 @@
-use Rattle.std.proofs.Common.{◌≡◌, ◌∙◌, sym, ap}
+use Rattle.std.proofs.Common.{◌≡◌, ◌∙◌, sym, ap, Ok}
 use Rattle.std.proofs.lemmas.Result.{err_from_is_err_and}
 use Rattle.cfb_sectors.specs.Seen.{bytes_of}
 use Rattle.msg_model.specs.NameMap as model
@@ -23,7 +23,7 @@ returns-then-is_text-clause-answer c =
     let e = entry_seen c.args.entry in
     let is : c.has_set.result ≡ model.has_set s.guids.bytes (model.set_index e) = c.has_set.ensures ∙ ap (model.has_set s.guids.bytes) c.set_index-index.ensures in
     let set : c.set_at-set.result.0 ≡ model.set_at s.guids.bytes (model.set_index e) = c.set_at-set.ensures ∙ ap (model.set_at s.guids.bytes) c.set_index-index.ensures in
-    text_gives s e c.has_set.result is c.if-not-has_set.false (sym c.is_text.ensures ∙ c.if-is_text.true) c.set_at-set.result.0 c.in_ok-units.units set c.in_ok-units.ensures.answer
+    text_gives s e c.has_set.result is c.if-not-has_set.false (sym c.is_text.ensures ∙ c.if-is_text.true) c.set_at-set.result.0 c.in_ok-units.units set c.in_ok-units.ensures.answer ∙ ap Ok (sym c.in_ok-of_text.ensures)
 
 pub returns-clause-answer : goal.returns-clause-answer
 returns-clause-answer c =
