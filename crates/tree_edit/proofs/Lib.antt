@@ -7,6 +7,7 @@ mod Made
 mod Mapped
 mod Numerals
 mod Once
+mod RowLists
 mod StepWords
 mod Steps
 mod Stores

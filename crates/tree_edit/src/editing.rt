@@ -1,14 +1,16 @@
 //! Edits of one part of a message, done in place. Each call answers how many of the edits behind the first were done.
 ghost use Rattle.std.specs.Prelude.{◌≡◌, ◌≤◌, ℕ, List, [], ◌∷◌, ◌++◌, drop, length, map, take, ◌<◌, OnOk, IfOk, IfErr, Ok, Err};
-ghost use Rattle.edit_model.specs.Edits.{at_path, at_spot, body_with, changed_at, dropped_at, with_body, with_props};
+ghost use Rattle.edit_model.specs.Edits.{at_path, at_spot, body_with, changed_at, with_body, with_props};
 ghost use Rattle.msg_tree.specs.Meaning.{tree_of, list_of, body_of};
-ghost use Rattle.tree_edit.specs.Changes.{IsCauseOf, in_turn, on_attachments, on_part, on_props, on_recipients, part_of, path_of};
+ghost use Rattle.tree_edit.specs.Changes.{IsCauseOf, in_turn, on_part, on_props, part_of, path_of};
 ghost use Rattle.tree_edit.specs.Meaning.{edit_of, spot_of};
 ghost use Rattle.tree_edit.specs.declared.editing.OnceEnd.TheVariants as ends;
 ghost use Rattle.tree_edit.specs.declared.edits.EditWhy.TheVariants as whys;
 
+use crate::attachment_rows::edit_attachments;
 use crate::edits::{Edit, EditWhy, Part, Spot};
 use crate::lists::edit_props;
+use crate::recipient_rows::edit_recipients;
 use carrier_io::{NoMemory, Numbers};
 use msg_tree::{Attachment, Attachments, Body, Message, Recipients};
 use prop_values::Props;
@@ -32,7 +34,7 @@ impl From<NoMemory> for OnceEnd {
 }
 
 /// The number as a place in a list of so many, where it is one.
-fn place_in(number: u64, count: usize) -> Result<usize, OnceEnd>
+pub fn place_in(number: u64, count: usize) -> Result<usize, OnceEnd>
     ensures ok { IfOk result (λ k. (k ≡ number) × (k < count)) }
     ensures err { IfErr result (λ e. (e ≡ ends.Cannot whys.NoPlace) × (count ≤ number)) }
 {
@@ -44,7 +46,7 @@ fn place_in(number: u64, count: usize) -> Result<usize, OnceEnd>
 }
 
 /// An attachment without anything.
-fn empty(alloc: Global) -> Attachment<Vec<u8>> {
+pub fn empty(alloc: Global) -> Attachment<Vec<u8>> {
     Attachment {
         props: Props::new(alloc),
         body: Body::Plain,
@@ -89,54 +91,6 @@ fn edit_attachment(
     Ok(count)
 }
 
-/// Takes a recipient out.
-fn drop_recipient(recipients: &mut Recipients<Vec<u8>>, number: u64) -> Result<(), OnceEnd>
-    ensures ok { OnOk result (dropped_at number recipients.old ≡ Ok recipients.new) }
-    ensures err { IfErr result (IsCauseOf (dropped_at number recipients.old)) }
-{
-    let k = place_in(number, recipients.len())?;
-    drop(recipients.remove(k));
-    Ok(())
-}
-
-/// Takes an attachment out.
-fn drop_attachment(attachments: &mut Attachments<Vec<u8>>, number: u64) -> Result<(), OnceEnd>
-    ensures ok { OnOk result (dropped_at number (list_of (λ v. v.items) attachments.old) ≡ Ok (list_of (λ v. v.items) attachments.new)) }
-    ensures err { IfErr result (IsCauseOf (dropped_at number (list_of (λ v. v.items) attachments.old))) }
-{
-    let k = place_in(number, attachments.len())?;
-    drop(attachments.remove(k));
-    Ok(())
-}
-
-/// Edits the list of recipients.
-fn edit_recipients(
-    alloc: Global,
-    recipients: &mut Recipients<Vec<u8>>,
-    edit: &Edit,
-) -> Result<(), OnceEnd>
-    ensures ok { OnOk result (on_recipients (edit_of edit.now) recipients.old ≡ Ok recipients.new) }
-    ensures err { IfErr result (IsCauseOf (on_recipients (edit_of edit.now) recipients.old)) }
-{
-    match edit {
-        Edit::AddRecipient { .. } => recipients.push(Props::new(alloc))?,
-        Edit::DropRecipient { number, .. } => drop_recipient(recipients, *number)?,
-        _ => {}
-    }
-    Ok(())
-}
-
-/// Edits the list of attachments.
-fn edit_attachments(attachments: &mut Attachments<Vec<u8>>, edit: &Edit) -> Result<(), OnceEnd>
-    ensures ok { OnOk result (on_attachments (edit_of edit.now) (list_of (λ v. v.items) attachments.old) ≡ Ok (list_of (λ v. v.items) attachments.new)) }
-    ensures err { IfErr result (IsCauseOf (on_attachments (edit_of edit.now) (list_of (λ v. v.items) attachments.old))) }
-{
-    match edit {
-        Edit::DropAttachment { number, .. } => drop_attachment(attachments, *number),
-        _ => Ok(()),
-    }
-}
-
 /// Edits the properties of a spot.
 fn edit_spot(
     alloc: Global,
@@ -169,14 +123,8 @@ fn edit_here(
 {
     match edit.part() {
         Part::Props(spot) => edit_spot(alloc, message, spot, edit, behind),
-        Part::Recipients => {
-            edit_recipients(alloc, &mut message.recipients, edit)?;
-            Ok(0)
-        }
-        Part::Attachments => {
-            edit_attachments(&mut message.attachments, edit)?;
-            Ok(0)
-        }
+        Part::Recipients => edit_recipients(alloc, &mut message.recipients, edit, behind),
+        Part::Attachments => edit_attachments(alloc, &mut message.attachments, edit, behind),
     }
 }
 

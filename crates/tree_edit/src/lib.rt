@@ -1,6 +1,7 @@
 //! Edits of trees, and the words that they are.
 #![tactic(auto)]
 
+mod attachment_rows;
 mod decimals;
 mod edit_list;
 mod editing;
@@ -10,6 +11,8 @@ mod keys;
 mod lists;
 mod places;
 mod prop_map;
+mod recipient_rows;
+mod rows;
 mod runs;
 mod scripts;
 mod values;

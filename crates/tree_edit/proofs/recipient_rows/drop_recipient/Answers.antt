@@ -2,7 +2,7 @@ use Rattle.std.proofs.Common.{◌∙◌, ap, sym, Ok}
 use Rattle.std.specs.List.{remove}
 use Rattle.std.proofs.lemmas.Result.{err_from_is_err_and}
 use Rattle.tree_edit.proofs.Steps.{dropped_ok, dropped_past}
-use Rattle.tree_edit.proofs.editing.drop_recipient.Goals as goal
+use Rattle.tree_edit.proofs.recipient_rows.drop_recipient.Goals as goal
 
 pub returns-in_err-k-clause-err : goal.returns-in_err-k-clause-err
 returns-in_err-k-clause-err c =

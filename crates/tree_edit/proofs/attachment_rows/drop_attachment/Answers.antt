@@ -3,7 +3,7 @@ use Rattle.std.specs.List.{remove}
 use Rattle.std.proofs.lemmas.Result.{err_from_is_err_and}
 use Rattle.msg_tree.specs.Meaning.{list_of, attached_of}
 use Rattle.tree_edit.proofs.Steps.{dropped_ok, dropped_past}
-use Rattle.tree_edit.proofs.editing.drop_attachment.Goals as goal
+use Rattle.tree_edit.proofs.attachment_rows.drop_attachment.Goals as goal
 
 pub returns-in_err-k-clause-err : goal.returns-in_err-k-clause-err
 returns-in_err-k-clause-err c =
