@@ -1,16 +1,18 @@
--- Edits in a row that set properties of one place, done at once.
-use Rattle.std.proofs.Common.{◌≡◌, ℕ, zero, suc, ◌+◌, ◌≤◌, ◌<◌, length, List, [], ◌∷◌, ◌++◌, take, drop, refl, ap, sym, subst, ◌∙◌, arith}
+-- Edits in a row that change one part of a message, done together.
+use Rattle.std.proofs.Common.{◌≡◌, ℕ, zero, suc, ◌+◌, ◌-◌, ◌≤◌, ◌<◌, length, List, [], ◌∷◌, ◌++◌, take, drop, map, get_or, refl, ap, sym, subst, ◌∙◌, arith}
 use Rattle.std.specs.Prelude.{Result, Ok, Err, Option, Some, None, slice_get, slice_set}
 use Rattle.std.specs.List.{AllByRecursion}
-use Rattle.std.proofs.lemmas.List.{set-set, take-append-drop, drop-drop, length-take-le, length-drop}
+use Rattle.std.proofs.lemmas.List.{set-set, take-append-drop, drop-drop, length-take-le, length-drop, length-map, get_or-map, take_more}
 use Rattle.carrier_model.specs.Tree.{Message, message, nothing, embedded, stored, Attached, attachments_from, listed, depth}
 use Rattle.carrier_model.specs.Values.{Prop}
-use Rattle.carrier_model.proofs.Trees.{listed-from}
-use Rattle.edit_model.specs.Edits.{Spot, itself, recipient, attachment, Place, Edit, set_prop, remove_prop, add_recipient, drop_recipient, drop_attachment, Why, there, changed_at, with_recipients, with_attachments, with_props, with_prop, at_spot, body_with, with_body, at_path, edited_once, edited_from, Makes, ◌>>=◌}
+use Rattle.carrier_model.proofs.Trees.{drop_at, listed-from}
+use Rattle.edit_model.specs.Edits.{Spot, itself, recipient, attachment, Edit, set_prop, remove_prop, add_recipient, drop_recipient, drop_attachment, Why, there, changed_at, with_recipients, with_attachments, with_props, at_spot, body_with, with_body, at_path, edited_once, edited_from, Makes, ◌>>=◌}
 use Rattle.edit_model.proofs.KeptTrees.{once_depth}
 use Rattle.msg_tree.specs.Keeping.{HasStores}
-use Rattle.tree_edit.specs.Runs.{set_all, sets_of, IsSetIn}
-use Rattle.tree_edit.proofs.Steps.{changed_ok, changed_err}
+use Rattle.tree_edit.specs.Changes.{Part, properties, recipients, attachments, path_of, part_of, on_props, on_recipients, on_attachments, in_turn, on_part, IsOf}
+use Rattle.tree_edit.specs.Meaning.{edit_of}
+use Rattle.tree_edit.specs.declared.edits.Edit as declared
+use Rattle.tree_edit.proofs.Steps.{changed_ok}
 use Rattle.tree_edit.proofs.Stores.{once_stores}
 
 -- ---- steps
@@ -18,10 +20,6 @@ use Rattle.tree_edit.proofs.Stores.{once_stores}
 step_of : {A B : Type 0} (r : Result A Why) (f : A → Result B Why) (y : B) → (r >>= f) ≡ Ok y → (x : A) × (r ≡ Ok x) × (f x ≡ Ok y)
 step_of (Ok x) f y h = (x, refl, h)
 step_of (Err why) f y h = absurd cc
-
-fails_of : {A B : Type 0} (r : Result A Why) (f : A → B) (why : Why) → (r >>= (λ x. Ok (f x))) ≡ Err why → r ≡ Err why
-fails_of (Ok x) f why h = absurd cc
-fails_of (Err w) f why h = let same : w ≡ why = cc in ap Err same
 
 set_there : {A : Type 0} (xs : List A) (k : ℕ) (x y : A) → slice_get xs k ≡ Some x → slice_get (slice_set xs k y) k ≡ Some y
 set_there [] k x y h = absurd cc
@@ -86,69 +84,64 @@ path_splits c f g (k ∷ path) split =
     attachments_splits (changed_at (with_body (at_path c path)) k) (changed_at (with_body (at_path f path)) k) (changed_at (with_body (at_path g path)) k)
     (changed_splits (with_body (at_path c path)) (with_body (at_path f path)) (with_body (at_path g path)) k (body_splits (at_path c path) (at_path f path) (at_path g path) (path_splits c f g path split)))
 
--- ---- a change that fails where another does
+-- ---- edits of one part
 
-abbrev Fails : {A : Type 0} → (A → Result A Why) → (A → Result A Why) → Type 0
-Fails {A} c f = (x : A) (why : Why) → c x ≡ Err why → f x ≡ Err why
+part_splits : (part : Part) (e f : Edit) (es : List Edit) → Splits (on_part part e (f ∷ es)) (on_part part e []) (on_part part f es)
+part_splits (properties spot) e f es = spot_splits (in_turn on_props e (f ∷ es)) (in_turn on_props e []) (in_turn on_props f es) spot (λ x z h. step_of (on_props e x) (in_turn on_props f es) z h)
+part_splits recipients e f es = recipients_splits (in_turn on_recipients e (f ∷ es)) (in_turn on_recipients e []) (in_turn on_recipients f es) (λ x z h. step_of (on_recipients e x) (in_turn on_recipients f es) z h)
+part_splits attachments e f es = attachments_splits (in_turn on_attachments e (f ∷ es)) (in_turn on_attachments e []) (in_turn on_attachments f es) (λ x z h. step_of (on_attachments e x) (in_turn on_attachments f es) z h)
 
-changed_fails : {A : Type 0} (c f : A → Result A Why) (k : ℕ) → Fails c f → Fails (changed_at c k) (changed_at f k)
-changed_fails {A} c f k fails xs why is = by (slice_get xs k) refl is
-  where
-    by : (o : Option A) → slice_get xs k ≡ o → (there o >>= (λ x. c x >>= (λ z. Ok (slice_set xs k z)))) ≡ Err why → changed_at f k xs ≡ Err why
-    by None at h = rw at h
-    by (Some x) at h = changed_err f k xs x why at (fails x why (fails_of (c x) (λ z. slice_set xs k z) why h))
+pub once_alone : (e : Edit) (t : Message) → at_path (on_part (part_of e) e []) (path_of e) t ≡ edited_once e t
+once_alone (set_prop place p) t = refl
+once_alone (remove_prop place key kind) t = refl
+once_alone (add_recipient path) t = refl
+once_alone (drop_recipient path k) t = refl
+once_alone (drop_attachment path k) t = refl
 
-recipients_fails : (c f : List (List Prop) → Result (List (List Prop)) Why) → Fails c f → Fails (with_recipients c) (with_recipients f)
-recipients_fails c f fails (message ps rs os) why is = let e = fails rs why (fails_of (c rs) (λ z. message ps z os) why is) in rw e refl
+once_in : (path : List ℕ) (part : Part) (e : Edit) (t u : Message) → IsOf path part e → at_path (on_part part e []) path t ≡ Ok u → edited_once e t ≡ Ok u
+once_in path part e t u own is = sym (once_alone e t) ∙ (ap (λ p. at_path (on_part p e []) (path_of e) t) own.1 ∙ (ap (λ l. at_path (on_part part e []) l t) own.0 ∙ is))
 
-attachments_fails : (c f : List Attached → Result (List Attached) Why) → Fails c f → Fails (with_attachments c) (with_attachments f)
-attachments_fails c f fails (message ps rs os) why is = let e = fails (listed os) why (fails_of (c (listed os)) (λ z. message ps rs (attachments_from z)) why is) in rw e refl
+pub run_makes : (path : List ℕ) (part : Part) (e : Edit) (es : List Edit) (t u : Message) → IsOf path part e → AllByRecursion (IsOf path part) es → at_path (on_part part e es) path t ≡ Ok u → Makes (e ∷ es) t u
+run_makes path part e [] t u own all is = (u, once_in path part e t u own is, refl)
+run_makes path part e (f ∷ es) t u own all is =
+    let (m, one, two) = path_splits (on_part part e (f ∷ es)) (on_part part e []) (on_part part f es) path (part_splits part e f es) t u is in
+    (m, once_in path part e t m own one, run_makes path part f es m u all.0 all.1 two)
 
-props_fails : (c f : List Prop → Result (List Prop) Why) → Fails c f → Fails (with_props c) (with_props f)
-props_fails c f fails (ps, b) why is = let e = fails ps why (fails_of (c ps) (λ z. (z, b)) why is) in rw e refl
+-- one more behind others
+turn_more : {A : Type 0} (on : Edit → A → Result A Why) (e : Edit) (es : List Edit) (f : Edit) (x y z : A) → in_turn on e es x ≡ Ok y → on f y ≡ Ok z → in_turn on e (es ++ f ∷ []) x ≡ Ok z
+turn_more on e [] f x y z one two = rw one two
+turn_more on e (g ∷ es) f x y z one two =
+    let (m, first, rest) = step_of (on e x) (in_turn on g es) y one in
+    rw first (turn_more on g es f m y z rest two)
 
-spot_fails : (c f : List Prop → Result (List Prop) Why) (spot : Spot) → Fails c f → Fails (at_spot c spot) (at_spot f spot)
-spot_fails c f itself fails (message ps rs os) why is = let e = fails ps why (fails_of (c ps) (λ z. message z rs os) why is) in rw e refl
-spot_fails c f (recipient k) fails t why is = recipients_fails (changed_at c k) (changed_at f k) (changed_fails c f k fails) t why is
-spot_fails c f (attachment k) fails t why is = attachments_fails (changed_at (with_props c) k) (changed_at (with_props f) k) (changed_fails (with_props c) (with_props f) k (props_fails c f fails)) t why is
+pub turn_next : {A : Type 0} (on : Edit → A → Result A Why) (e : Edit) (xs : List declared.Edit) (k : ℕ) (f : declared.Edit) (x y z : A) → k < length xs → f ≡ get_or xs k f → in_turn on e (take k (map edit_of xs)) x ≡ Ok y → on (edit_of f) y ≡ Ok z → in_turn on e (take (k + 1) (map edit_of xs)) x ≡ Ok z
+turn_next on e xs k f x y z lt is one two =
+    let here : get_or (map edit_of xs) k (edit_of f) ≡ edit_of f = get_or-map edit_of xs k f (edit_of f) lt ∙ ap edit_of (sym is) in
+    let more : take (k + 1) (map edit_of xs) ≡ take k (map edit_of xs) ++ edit_of f ∷ [] = take_more (map edit_of xs) k (edit_of f) (omega (arith, lt, length-map xs edit_of)) ∙ ap (λ g. take k (map edit_of xs) ++ g ∷ []) here in
+    ap (λ l. in_turn on e l x) more ∙ turn_more on e (take k (map edit_of xs)) (edit_of f) x y z one two
 
-body_fails : (c f : Message → Result Message Why) → Fails c f → Fails (with_body c) (with_body f)
-body_fails c f fails (ps, nothing) why is = is
-body_fails c f fails (ps, stored s) why is = is
-body_fails c f fails (ps, embedded m) why is =
-    let inner : body_with c (embedded m) ≡ Err why = fails_of (body_with c (embedded m)) (λ b. (ps, b)) why is in
-    let e = fails m why (fails_of (c m) (λ n. embedded n) why inner) in
-    rw e refl
+one_more : {A : Type 0} (P : A → Type 0) (ys : List A) (m : ℕ) (x : A) (zs : List A) → drop m ys ≡ x ∷ zs → P x → AllByRecursion P (take m ys) → AllByRecursion P (take (suc m) ys)
+one_more P [] zero x zs e p h = absurd cc
+one_more P [] (suc m) x zs e p h = absurd cc
+one_more P (y ∷ ys) zero x zs e p h = let same : y ≡ x = cc in (subst P (sym same) p, tt)
+one_more P (y ∷ ys) (suc m) x zs e p h = (h.0, one_more P ys m x zs e p h.1)
 
-path_fails : (c f : Message → Result Message Why) (path : List ℕ) → Fails c f → Fails (at_path c path) (at_path f path)
-path_fails c f [] fails = fails
-path_fails c f (k ∷ path) fails =
-    attachments_fails (changed_at (with_body (at_path c path)) k) (changed_at (with_body (at_path f path)) k)
-    (changed_fails (with_body (at_path c path)) (with_body (at_path f path)) k (body_fails (at_path c path) (at_path f path) (path_fails c f path fails)))
+pub all_more : {A : Type 0} (P : A → Type 0) (es : List A) (from k : ℕ) (x : A) → from ≤ k → slice_get es k ≡ Some x → P x → AllByRecursion P (take (k - from) (drop from es)) → AllByRecursion P (take (k + 1 - from) (drop from es))
+all_more P es from k x le at p h =
+    let whole : from + (k - from) ≡ k = omega (arith, le) in
+    let more : suc (k - from) ≡ k + 1 - from = omega (arith, le) in
+    let here : drop (k - from) (drop from es) ≡ x ∷ drop (k + 1) es = drop-drop (k - from) from es ∙ (ap (λ n. drop n es) whole ∙ drop_at es k x at) in
+    subst (λ n. AllByRecursion P (take n (drop from es))) more (one_more P (drop from es) (k - from) x (drop (k + 1) es) here p h)
 
--- ---- a run
+but_first : {A : Type 0} (P : A → Type 0) (ys : List A) (m : ℕ) → AllByRecursion P (take (suc m) ys) → AllByRecursion P (take m (drop 1 ys))
+but_first P [] zero h = tt
+but_first P [] (suc m) h = tt
+but_first P (y ∷ ys) m h = h.1
 
--- a place in which properties are set in turn
-abbrev with_sets : List Prop → List Prop → Result (List Prop) Why
-with_sets run props = Ok (set_all props run)
-
-in_place : (place own : Place) (p : Prop) (t : Message) (r : Result Message Why) → own ≡ place → at_path (at_spot (with_prop p) place.spot) place.path t ≡ r → edited_once (set_prop own p) t ≡ r
-in_place place own p t r same h = subst (λ (o : Place). at_path (at_spot (with_prop p) o.spot) o.path t ≡ r) (sym same) h
-
-pub run_makes : (place : Place) (run : List Edit) (t u : Message) → AllByRecursion (IsSetIn place) run → 0 < length run → at_path (at_spot (λ props. Ok (set_all props (sets_of run))) place.spot) place.path t ≡ Ok u → Makes run t u
-run_makes place [] t u all some is = absurd (omega (arith, some))
-run_makes place (set_prop own p ∷ []) t u all some is = (u, in_place place own p t (Ok u) all.0 is, refl)
-run_makes place (set_prop own p ∷ e ∷ run) t u all some is =
-    let (m, one, two) = path_splits (at_spot (with_sets (p ∷ sets_of (e ∷ run))) place.spot) (at_spot (with_prop p) place.spot) (at_spot (with_sets (sets_of (e ∷ run))) place.spot) place.path
-    (spot_splits (with_sets (p ∷ sets_of (e ∷ run))) (with_prop p) (with_sets (sets_of (e ∷ run))) place.spot (λ x z h. (_, refl, h))) t u is in
-    (m, in_place place own p t (Ok m) all.0 one, run_makes place (e ∷ run) m u all.1 (omega arith) two)
-run_makes place (remove_prop own key kind ∷ run) t u all some is = absurd all.0
-run_makes place (add_recipient path ∷ run) t u all some is = absurd all.0
-run_makes place (drop_recipient path k ∷ run) t u all some is = absurd all.0
-run_makes place (drop_attachment path k ∷ run) t u all some is = absurd all.0
-
-pub run_fails : (place : Place) (p : Prop) (run : List Prop) (t : Message) (why : Why) → at_path (at_spot (λ props. Ok (set_all props run)) place.spot) place.path t ≡ Err why → edited_once (set_prop place p) t ≡ Err why
-run_fails place p run t why is = path_fails (at_spot (with_sets run) place.spot) (at_spot (with_prop p) place.spot) place.path (spot_fails (with_sets run) (with_prop p) place.spot (λ x w h. absurd cc)) t why is
+pub all_behind : {A : Type 0} (P : A → Type 0) (es : List A) (from to : ℕ) → from + 1 ≤ to → AllByRecursion P (take (to - from) (drop from es)) → AllByRecursion P (take (to - (from + 1)) (drop (from + 1) es))
+all_behind P es from to le h =
+    let one : to - from ≡ suc (to - (from + 1)) = omega (arith, le) in
+    subst (λ l. AllByRecursion P (take (to - (from + 1)) l)) (drop-drop 1 from es) (but_first P (drop from es) (to - (from + 1)) (subst (λ n. AllByRecursion P (take n (drop from es))) one h))
 
 -- ---- a list of edits, some of which are made
 

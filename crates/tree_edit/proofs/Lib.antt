@@ -2,12 +2,12 @@ mod Composed
 mod Cuts
 mod Digits
 mod EditSteps
-mod Falling
 mod Found
 mod Made
+mod Mapped
 mod Numerals
 mod Once
-mod Setting
+mod RowLists
 mod StepWords
 mod Steps
 mod Stores

@@ -1,6 +1,6 @@
 -- Steps of edits, where what they need is there and where it isn't.
 use Rattle.std.proofs.Common.{◌≡◌, ℕ, ◌≤◌, length, List, refl, ap, ◌∙◌}
-use Rattle.std.specs.Prelude.{Result, Ok, Err, Some, slice_get, slice_set}
+use Rattle.std.specs.Prelude.{Result, Ok, Err, IfOk, IfErr, Some, slice_get, slice_set}
 use Rattle.std.specs.List.{remove}
 use Rattle.std.proofs.lemmas.List.{set-set}
 use Rattle.std.proofs.lemmas.Option.{slice_get_past}
@@ -47,6 +47,15 @@ body_ok change x body made = rw made refl
 pub cause_above : {A C : Type 0} (r : Result A Why) (s : Result C Why) (e : OnceEnd) → ((why : Why) → r ≡ Err why → s ≡ Err why) → IsCauseOf r e → IsCauseOf s e
 cause_above r s (ends.Cannot why) step h = step (why_of why) h
 cause_above r s ends.NoMemory step h = tt
+
+-- the same of an answer
+pub ok_above : {T E : Type 0} (r : Result T E) (P Q : T → Type 0) → ((n : T) → P n → Q n) → IfOk r P → IfOk r Q
+ok_above (Ok n) P Q step h = step n h
+ok_above (Err e) P Q step h = tt
+
+pub err_above : {T A C : Type 0} (result : Result T OnceEnd) (r : Result A Why) (s : Result C Why) → ((why : Why) → r ≡ Err why → s ≡ Err why) → IfErr result (IsCauseOf r) → IfErr result (IsCauseOf s)
+err_above (Ok n) r s step h = tt
+err_above (Err e) r s step h = cause_above r s e step h
 
 -- two writes at one place
 pub put_twice : {A : Type 0} (k n : ℕ) (l m r : List A) (x y : A) → m ≡ slice_set l k x → r ≡ slice_set m k y → k ≡ n → r ≡ slice_set l n y

@@ -1,31 +1,76 @@
--- What is done to one message, and the way to it.
-use Rattle.std.specs.Prelude.{◌≡◌, List, [], ◌∷◌, ◌++◌, Result, Ok, Err}
-use Rattle.carrier_model.specs.Tree.{Message}
+-- What edits do to one message, one after another.
+use Rattle.std.specs.Prelude.{◌≡◌, ℕ, List, [], ◌∷◌, ◌++◌, Result, Ok, Err}
+use Rattle.carrier_model.specs.Tree.{Message, Attached}
 use Rattle.carrier_model.specs.Values.{Prop}
-use Rattle.edit_model.specs.Edits.{Why, with_prop, without_prop, with_recipients, with_attachments, dropped_at, at_spot}
-use Rattle.prop_names.specs.Meaning.{key_of}
-use Rattle.prop_values.specs.Kinds.{kind_number}
-use Rattle.tree_edit.specs.declared.editing.Deed.{Deed}
-use Rattle.tree_edit.specs.declared.editing.Deed.TheVariants as deed
+use Rattle.edit_model.specs.Edits.{Edit, set_prop, remove_prop, add_recipient, drop_recipient, drop_attachment, Spot, Why, with_prop, without_prop, with_recipients, with_attachments, dropped_at, at_spot, ◌>>=◌}
 use Rattle.tree_edit.specs.declared.editing.OnceEnd.{OnceEnd}
 use Rattle.tree_edit.specs.declared.editing.OnceEnd.TheVariants.{Cannot, NoMemory}
-use Rattle.tree_edit.specs.declared.lists.Change.{Change}
-use Rattle.tree_edit.specs.declared.lists.Change.TheVariants as change
+use Rattle.tree_edit.specs.declared.edits.Part as declared
+use Rattle.tree_edit.specs.declared.edits.Part.TheVariants as one
 use Rattle.tree_edit.specs.Meaning.{spot_of, why_of}
-use Rattle.tree_edit.specs.Runs.{set_all, sets_in}
 
--- what is done to a property list
-abbrev pub on_list : Change → List Prop → Result (List Prop) Why
-on_list (change.Set prop) props = with_prop prop.now props
-on_list (change.SetAll edits from to) props = Ok (set_all props (sets_in edits.now from to))
-on_list (change.Remove key kind) props = without_prop (key_of key.now) (kind_number kind) props
+-- what an edit changes in its message
+pub data Part : Type 0 where
+  properties : (spot : Spot) → Part
+  recipients : Part
+  attachments : Part
 
--- what is done to a message
-abbrev pub on_message : Deed → Message → Result Message Why
-on_message (deed.Change spot change) = at_spot (on_list change) (spot_of spot)
-on_message deed.AddRecipient = with_recipients (λ recipients. Ok (recipients ++ [] ∷ []))
-on_message (deed.DropRecipient k) = with_recipients (dropped_at k)
-on_message (deed.DropAttachment k) = with_attachments (dropped_at k)
+abbrev pub part_meant : declared.Part → Part
+part_meant (one.Props spot) = properties (spot_of spot)
+part_meant one.Recipients = recipients
+part_meant one.Attachments = attachments
+
+-- the path to the message of an edit
+abbrev pub path_of : Edit → List ℕ
+path_of (set_prop place p) = place.path
+path_of (remove_prop place key kind) = place.path
+path_of (add_recipient path) = path
+path_of (drop_recipient path k) = path
+path_of (drop_attachment path k) = path
+
+abbrev pub part_of : Edit → Part
+part_of (set_prop place p) = properties place.spot
+part_of (remove_prop place key kind) = properties place.spot
+part_of (add_recipient path) = recipients
+part_of (drop_recipient path k) = recipients
+part_of (drop_attachment path k) = attachments
+
+-- what an edit does to the list that it changes; another list stays
+abbrev pub on_props : Edit → List Prop → Result (List Prop) Why
+on_props (set_prop place p) props = with_prop p props
+on_props (remove_prop place key kind) props = without_prop key kind props
+on_props (add_recipient path) props = Ok props
+on_props (drop_recipient path k) props = Ok props
+on_props (drop_attachment path k) props = Ok props
+
+abbrev pub on_recipients : Edit → List (List Prop) → Result (List (List Prop)) Why
+on_recipients (set_prop place p) list = Ok list
+on_recipients (remove_prop place key kind) list = Ok list
+on_recipients (add_recipient path) list = Ok (list ++ [] ∷ [])
+on_recipients (drop_recipient path k) list = dropped_at k list
+on_recipients (drop_attachment path k) list = Ok list
+
+abbrev pub on_attachments : Edit → List Attached → Result (List Attached) Why
+on_attachments (set_prop place p) list = Ok list
+on_attachments (remove_prop place key kind) list = Ok list
+on_attachments (add_recipient path) list = Ok list
+on_attachments (drop_recipient path k) list = Ok list
+on_attachments (drop_attachment path k) list = dropped_at k list
+
+-- an edit is done, and then others in turn
+abbrev pub in_turn : {A : Type 0} → (Edit → A → Result A Why) → Edit → List Edit → A → Result A Why
+in_turn on e [] x = on e x
+in_turn on e (f ∷ es) x = on e x >>= in_turn on f es
+
+-- the same with a message of which all of them change one part
+abbrev pub on_part : Part → Edit → List Edit → Message → Result Message Why
+on_part (properties spot) e es = at_spot (in_turn on_props e es) spot
+on_part recipients e es = with_recipients (in_turn on_recipients e es)
+on_part attachments e es = with_attachments (in_turn on_attachments e es)
+
+-- the edit changes the part of the message at the end of the path
+abbrev pub IsOf : List ℕ → Part → Edit → Type 0
+IsOf path part e = (path_of e ≡ path) × (part_of e ≡ part)
 
 -- why there is no result; or there was no memory
 abbrev pub IsCauseOf : {A : Type 0} → Result A Why → OnceEnd → Type 0

@@ -1,4 +1,5 @@
 pub mod Changes
+pub mod Mapped
 pub mod Meaning
 pub mod Reading
-pub mod Runs
+pub mod Rows

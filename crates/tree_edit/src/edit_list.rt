@@ -1,5 +1,5 @@
 //! A list of edits.
-ghost use Rattle.std.specs.Prelude.{◌≡◌, ◌<◌, [], ◌∷◌, ◌++◌, length, OnOk, OnErr, slice_get, Some};
+ghost use Rattle.std.specs.Prelude.{◌≡◌, ◌<◌, ◌≤◌, ◌-◌, [], ◌∷◌, ◌++◌, length, map, take, drop, OnOk, OnErr, slice_get, Some};
 ghost use Rattle.tree_edit.specs.Meaning.{edit_of};
 
 use crate::edits::Edit;
@@ -56,5 +56,13 @@ impl Edits {
         ensures { slice_get self.now k ≡ Some (edit_of result.now) }
     {
         &self.list[k]
+    }
+
+    /// The edits from one place on up to another.
+    pub fn between(&self, from: usize, to: usize) -> &[Edit]
+        requires { (from ≤ to) × (to ≤ length self.now) }
+        ensures { map edit_of result.now ≡ take (to - from) (drop from self.now) }
+    {
+        &self.list[from..to]
     }
 }

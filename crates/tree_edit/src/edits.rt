@@ -1,5 +1,7 @@
 //! Edits of a message, and why they can't be done.
 ghost use Rattle.std.specs.Prelude.{◌≡◌};
+ghost use Rattle.tree_edit.specs.Changes.{part_meant, part_of, path_of};
+ghost use Rattle.tree_edit.specs.Meaning.{edit_of};
 ghost use Rattle.tree_edit.specs.declared.edits.EditEnd.TheVariants as ends;
 
 use carrier_io::{NoMemory, Numbers};
@@ -36,6 +38,45 @@ pub enum Edit {
     DropRecipient { path: Numbers, number: u64 },
     /// Takes an attachment out. Those behind it move up.
     DropAttachment { path: Numbers, number: u64 },
+}
+
+impl Edit {
+    /// The path to its message.
+    pub fn path(&self) -> &Numbers
+        ensures { result.now ≡ path_of (edit_of self.now) }
+    {
+        match self {
+            Edit::SetProp { place, .. } => &place.path,
+            Edit::RemoveProp { place, .. } => &place.path,
+            Edit::AddRecipient { path } => path,
+            Edit::DropRecipient { path, .. } => path,
+            Edit::DropAttachment { path, .. } => path,
+        }
+    }
+
+    /// What it changes in its message.
+    pub fn part(&self) -> Part
+        ensures { part_meant result ≡ part_of (edit_of self.now) }
+    {
+        match self {
+            Edit::SetProp { place, .. } => Part::Props(place.spot),
+            Edit::RemoveProp { place, .. } => Part::Props(place.spot),
+            Edit::AddRecipient { .. } => Part::Recipients,
+            Edit::DropRecipient { .. } => Part::Recipients,
+            Edit::DropAttachment { .. } => Part::Attachments,
+        }
+    }
+}
+
+/// What an edit changes in its message.
+#[derive(Clone, Copy, Debug, PartialEq, Eq)]
+pub enum Part {
+    /// The properties of a spot.
+    Props(Spot),
+    /// The list of recipients.
+    Recipients,
+    /// The list of attachments.
+    Attachments,
 }
 
 /// Why an edit can't be done.

@@ -1,6 +1,7 @@
 //! Edits of trees, and the words that they are.
 #![tactic(auto)]
 
+mod attachment_rows;
 mod decimals;
 mod edit_list;
 mod editing;
@@ -8,8 +9,10 @@ mod edits;
 mod hex_words;
 mod keys;
 mod lists;
-mod merging;
 mod places;
+mod prop_map;
+mod recipient_rows;
+mod rows;
 mod runs;
 mod scripts;
 mod values;

@@ -1,30 +1,19 @@
-//! Changes of one property list.
-ghost use Rattle.std.specs.Prelude.{◌≡◌, OnOk, IfErr, Ok, Err, true, false};
+//! Changes of property lists.
+ghost use Rattle.std.specs.Prelude.{◌≡◌, ◌≤◌, length, map, take, OnOk, IfOk, IfErr, Ok, Err, true, false};
 ghost use Rattle.edit_model.specs.Edits.{no_property, with_prop, without_prop};
 ghost use Rattle.prop_names.specs.Meaning.{key_of};
 ghost use Rattle.prop_values.specs.Kinds.{kind_number};
-ghost use Rattle.tree_edit.specs.Changes.{IsCauseOf, on_list};
+ghost use Rattle.tree_edit.specs.Changes.{IsCauseOf, in_turn, on_props};
+ghost use Rattle.tree_edit.specs.Meaning.{edit_of};
 
-use crate::edit_list::Edits;
 use crate::editing::OnceEnd;
-use crate::edits::EditWhy;
-use crate::merging::set_props;
+use crate::edits::{Edit, EditWhy};
+use crate::prop_map::{PropMap, listed, mapped};
 use carrier_io::NoMemory;
 use prop_names::Key;
 use prop_values::copy::copy_prop;
 use prop_values::{InsertEnd, Kind, Prop, Props};
 use std::alloc::Global;
-
-/// What is done to a property list.
-#[derive(Drop)]
-pub enum Change<'a> {
-    /// The property is put in its place, and in the place of the one that has its key and kind.
-    Set(&'a Prop<Vec<u8>>),
-    /// The same with each property that the edits set from the one number on, up to the other, in turn.
-    SetAll(&'a Edits, usize, usize),
-    /// The property with the key and the kind is taken out.
-    Remove(&'a Key, Kind),
-}
 
 /// Puts a property in its place, and in the place of the one that has its key and kind.
 fn set_prop(props: &mut Props<Vec<u8>>, prop: Prop<Vec<u8>>) -> Result<(), NoMemory>
@@ -54,31 +43,81 @@ fn remove_prop(props: &mut Props<Vec<u8>>, key: &Key, kind: Kind) -> bool
     }
 }
 
-/// Changes a property list.
-pub fn change_props(
+/// Does an edit of properties in a list. It answers whether it could be done.
+fn edit_list(alloc: Global, props: &mut Props<Vec<u8>>, edit: &Edit) -> Result<bool, NoMemory>
+    ensures done { IfOk result (λ done. done ≡ true → on_props (edit_of edit.now) props.old ≡ Ok props.new) }
+    ensures absent { IfOk result (λ done. done ≡ false → on_props (edit_of edit.now) props.old ≡ Err no_property) }
+{
+    match edit {
+        Edit::SetProp { prop, .. } => {
+            set_prop(props, copy_prop(alloc, prop)?)?;
+            Ok(true)
+        }
+        Edit::RemoveProp { key, kind, .. } => Ok(remove_prop(props, key, *kind)),
+        _ => Ok(true),
+    }
+}
+
+/// Does an edit of properties in a map. It answers whether it could be done.
+fn edit_map(alloc: Global, sorted: &mut PropMap, edit: &Edit) -> Result<bool, NoMemory>
+    ensures done { IfOk result (λ done. done ≡ true → on_props (edit_of edit.now) sorted.old ≡ Ok sorted.new) }
+    ensures absent { IfOk result (λ done. done ≡ false → (on_props (edit_of edit.now) sorted.old ≡ Err no_property) × (sorted.new ≡ sorted.old)) }
+{
+    match edit {
+        Edit::SetProp { prop, .. } => {
+            sorted.set(alloc, copy_prop(alloc, prop)?)?;
+            Ok(true)
+        }
+        Edit::RemoveProp { key, kind, .. } => sorted.remove(alloc, key, *kind),
+        _ => Ok(true),
+    }
+}
+
+/// Does an edit of properties in a map, and those behind it up to the first that can't be done. It answers how many of those
+/// behind it were done.
+fn edit_map_on(
+    alloc: Global,
+    sorted: &mut PropMap,
+    edit: &Edit,
+    behind: &[Edit],
+) -> Result<usize, OnceEnd>
+    ensures count { IfOk result (λ n. n ≤ length behind.now) }
+    ensures ok { IfOk result (λ n. in_turn on_props (edit_of edit.now) (take n (map edit_of behind.now)) sorted.old ≡ Ok sorted.new) }
+    ensures err { IfErr result (IsCauseOf (on_props (edit_of edit.now) sorted.old)) }
+{
+    if !edit_map(alloc, sorted, edit)? {
+        return Err(OnceEnd::Cannot(EditWhy::NoProperty));
+    }
+    let mut count = 0;
+    for next in behind {
+        if !edit_map(alloc, sorted, next)? {
+            return Ok(count);
+        }
+        count += 1;
+    }
+    Ok(count)
+}
+
+/// Does an edit of properties in a list, and those behind it up to the first that can't be done. It answers how many of those
+/// behind it were done. Where there are any, all properties are moved into a map and back.
+pub fn edit_props(
     alloc: Global,
     props: &mut Props<Vec<u8>>,
-    change: &Change<'_>,
-) -> Result<(), OnceEnd>
-    ensures ok { OnOk result (on_list change.now props.old ≡ Ok props.new) }
-    ensures err { IfErr result (IsCauseOf (on_list change.now props.old)) }
+    edit: &Edit,
+    behind: &[Edit],
+) -> Result<usize, OnceEnd>
+    ensures count { IfOk result (λ n. n ≤ length behind.now) }
+    ensures ok { IfOk result (λ n. in_turn on_props (edit_of edit.now) (take n (map edit_of behind.now)) props.old ≡ Ok props.new) }
+    ensures err { IfErr result (IsCauseOf (on_props (edit_of edit.now) props.old)) }
 {
-    match change {
-        Change::Set(prop) => {
-            let copy = copy_prop(alloc, prop)?;
-            set_prop(props, copy)?;
-            Ok(())
+    if behind.is_empty() {
+        if edit_list(alloc, props, edit)? {
+            return Ok(0);
         }
-        Change::SetAll(edits, from, to) => {
-            set_props(alloc, props, edits, *from, *to)?;
-            Ok(())
-        }
-        Change::Remove(key, kind) => {
-            if remove_prop(props, key, *kind) {
-                Ok(())
-            } else {
-                Err(OnceEnd::Cannot(EditWhy::NoProperty))
-            }
-        }
+        return Err(OnceEnd::Cannot(EditWhy::NoProperty));
     }
+    let mut sorted = mapped(alloc, props)?;
+    let count = edit_map_on(alloc, &mut sorted, edit, behind)?;
+    listed(sorted, props)?;
+    Ok(count)
 }

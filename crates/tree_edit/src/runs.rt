@@ -1,22 +1,20 @@
-//! Edits that are done at once: those in a row that set properties of one spot.
-ghost use Rattle.std.specs.Prelude.{◌≡◌, ◌≤◌, ◌<◌, ◌+◌, ◌-◌, IsTrue, ◌↔◌, IfOk, IfErr, Some, drop, length, slice_get, take};
+//! Edits that are done together: those in a row that change one part of a message.
+ghost use Rattle.std.specs.Prelude.{◌≡◌, ◌≤◌, ◌<◌, ◌+◌, ◌-◌, IsTrue, IfOk, IfErr, Some, drop, length, map, slice_get, take};
 ghost use Rattle.std.specs.List.{AllByRecursion};
 ghost use Rattle.edit_model.specs.Edits.{Makes, edited_once};
 ghost use Rattle.edit_model.specs.Edits as plain;
 ghost use Rattle.msg_tree.specs.Meaning.{tree_of};
-ghost use Rattle.tree_edit.specs.Changes.{IsCauseOf};
-ghost use Rattle.tree_edit.specs.Meaning.{edit_of, place_of};
-ghost use Rattle.tree_edit.specs.Runs.{IsSetIn};
+ghost use Rattle.tree_edit.specs.Changes.{IsCauseOf, IsOf, part_of, path_of};
+ghost use Rattle.tree_edit.specs.Meaning.{edit_of};
 
 use crate::edit_list::Edits;
-use crate::editing::{Deed, OnceEnd, do_at, edit_once};
-use crate::edits::{Edit, Place};
-use crate::lists::Change;
+use crate::editing::{OnceEnd, edit_on};
+use crate::edits::Edit;
 use carrier_io::Numbers;
 use msg_tree::Message;
 use std::alloc::Global;
 
-/// So many edits, or more, are done at once: fewer cost less one by one.
+/// So many edits, or more, are done together: fewer cost less one by one.
 const MANY: usize = 16;
 
 /// Whether two lists of numbers are the same.
@@ -34,34 +32,43 @@ fn are_same(one: &Numbers, other: &Numbers) -> bool
     true
 }
 
-/// Whether an edit sets a property of the place.
-fn sets_in(edit: &Edit, place: &Place) -> bool
-    ensures { IsTrue result → IsSetIn (place_of place.now) (edit_of edit.now) }
+/// Whether one edit changes the same part of the same message as another.
+fn is_beside(one: &Edit, other: &Edit) -> bool
+    ensures { IsTrue result → IsOf (path_of (edit_of other.now)) (part_of (edit_of other.now)) (edit_of one.now) }
 {
-    match edit {
-        Edit::SetProp { place: own, .. } => {
-            own.spot == place.spot && are_same(&own.path, &place.path)
-        }
-        _ => false,
-    }
+    one.part() == other.part() && are_same(one.path(), other.path())
 }
 
-/// The number of the first edit, from one on, that sets no property of the place.
-fn end_of(edits: &Edits, from: usize, place: &Place) -> usize
-    requires { from ≤ length edits.now }
-    ensures bounds { (from ≤ result) × (result ≤ length edits.now) }
-    ensures sets { AllByRecursion (IsSetIn (place_of place.now)) (take (result - from) (drop from edits.now)) }
+/// The number of the first edit, from one on, that changes something else than that one does.
+fn end_of(edits: &Edits, at: usize, edit: &Edit) -> usize
+    requires { at ≤ length edits.now }
+    ensures bounds { (at ≤ result) × (result ≤ length edits.now) }
+    ensures all { AllByRecursion (IsOf (path_of (edit_of edit.now)) (part_of (edit_of edit.now))) (take (result - at) (drop at edits.now)) }
 {
-    for k in from..edits.len() {
-        if !sets_in(edits.get(k), place) {
+    for k in at..edits.len() {
+        if !is_beside(edits.get(k), edit) {
             return k;
         }
     }
     edits.len()
 }
 
-/// Does an edit, and with it those behind it that set properties of the same spot where they are many. It answers how many
-/// were done. The message is of no use where they weren't.
+/// The edits behind one that are done with it: those that change the same, where they are many.
+fn behind<'a>(edits: &'a Edits, at: usize, edit: &Edit) -> &'a [Edit]
+    requires { at < length edits.now }
+    ensures run { map edit_of result.now ≡ take (length result.now) (drop (at + 1) edits.now) }
+    ensures bound { at + 1 + length result.now ≤ length edits.now }
+    ensures all { AllByRecursion (IsOf (path_of (edit_of edit.now)) (part_of (edit_of edit.now))) (map edit_of result.now) }
+{
+    let end = end_of(edits, at, edit);
+    if end - at < MANY {
+        return edits.between(at, at);
+    }
+    edits.between(at + 1, end)
+}
+
+/// Does an edit, and with it those behind it that change the same, where they are many, up to the first that can't be done.
+/// It answers how many were done. The message is of no use where the first wasn't.
 pub fn edit_next(
     alloc: Global,
     message: &mut Message<Vec<u8>>,
@@ -74,14 +81,6 @@ pub fn edit_next(
     ensures err { IfErr result (λ e. (edit : plain.Edit) → slice_get edits.now at ≡ Some edit → IsCauseOf (edited_once edit (tree_of (λ v. v.items) message.old)) e) }
 {
     let edit = edits.get(at);
-    if let Edit::SetProp { place, .. } = edit {
-        let end = end_of(edits, at, place);
-        if end - at >= MANY {
-            let deed = Deed::Change(place.spot, Change::SetAll(edits, at, end));
-            do_at(alloc, message, &place.path, &deed)?;
-            return Ok(end - at);
-        }
-    }
-    edit_once(alloc, message, edit)?;
-    Ok(1)
+    let count = edit_on(alloc, message, edit, behind(edits, at, edit))?;
+    Ok(count + 1)
 }

@@ -128,6 +128,40 @@ fn many_edits_of_a_place(rt: HostRuntime) -> Result<(), Fail> {
     let edits = read_edits(rt.alloc(), &list)?.ok_or("edits")?;
     let got = edited(rt.alloc(), &tree(&rt, 2, None)?, &edits);
     assert!(rt; same(&got.ok().ok_or("a tree")?, &tree(&rt, 1, None)?));
+    push_edit(&rt, &mut list, "remove", 1, &["Integer32"])?;
+    let edits = read_edits(rt.alloc(), &list)?.ok_or("edits")?;
+    let got = edited(rt.alloc(), &tree(&rt, 2, None)?, &edits);
+    let fault = EditFault {
+        edit: 46,
+        why: EditWhy::NoProperty,
+    };
+    assert!(rt; got.err() == Some(EditEnd::Fault(fault)));
+    Ok(())
+}
+
+#[test]
+fn many_recipients_that_come_and_go(rt: HostRuntime) -> Result<(), Fail> {
+    let mut list = Vec::new(rt.alloc());
+    for _ in 0..20 {
+        list.push("add-recipient")?;
+        list.push(".")?;
+    }
+    for _ in 0..20 {
+        list.push("drop-recipient")?;
+        list.push(".")?;
+        list.push("0")?;
+    }
+    let got = edited_by(&rt, &list, &tree(&rt, 2, None)?)?;
+    assert!(rt; same(&got.ok().ok_or("a tree")?, &tree(&rt, 2, None)?));
+    list.push("drop-recipient")?;
+    list.push(".")?;
+    list.push("0")?;
+    let got = edited_by(&rt, &list, &tree(&rt, 2, None)?)?;
+    let fault = EditFault {
+        edit: 40,
+        why: EditWhy::NoPlace,
+    };
+    assert!(rt; got.err() == Some(EditEnd::Fault(fault)));
     Ok(())
 }
 

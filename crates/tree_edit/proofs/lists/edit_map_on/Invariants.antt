@@ -1,0 +1,10 @@
+use Rattle.std.proofs.Common.{◌≡◌, Ok, map, take}
+use Rattle.tree_edit.specs.Changes.{in_turn, on_props}
+use Rattle.tree_edit.specs.Meaning.{edit_of}
+use Rattle.tree_edit.proofs.lists.edit_map_on.Given as goal
+
+abbrev pub invariant-loop-next : goal.invariant-loop-next
+invariant-loop-next l = record {
+  counted : l.count ≡ l.next-index;
+  done : in_turn on_props (edit_of l.edit) (take l.next-index (map edit_of l.behind)) l.fn.sorted ≡ Ok l.sorted;
+}
