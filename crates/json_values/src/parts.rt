@@ -16,11 +16,11 @@ pub fn as_str<'a>(value: &Value<'a>) -> Option<&'a str>
 }
 
 /// The elements of an array.
-pub fn as_items<'v, 'a>(value: &'v Value<'a>) -> Option<&'v [Value<'a>]>
-    ensures { option_map (λ items. items_view items.now) result ≡ as_array (view value.now) }
+pub fn as_items<'v, 'a>(value: &'v Value<'a>) -> Option<&'v Vec<Value<'a>>>
+    ensures { option_map (λ items. items_view items.now.items) result ≡ as_array (view value.now) }
 {
     match value {
-        Value::Array(items) => Some(items.as_slice()),
+        Value::Array(items) => Some(items),
         _ => None,
     }
 }

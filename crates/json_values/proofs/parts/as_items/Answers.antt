@@ -4,4 +4,4 @@ use Rattle.json_values.proofs.Views.{array_seen}
 use Rattle.json_values.proofs.parts.as_items.Goals as goal
 
 pub returns-in-Array : goal.returns-in-Array
-returns-in-Array c = ap (λ vs. Some (items_view vs)) c.as_slice.ensures.value ∙ array_seen c.in-Array.items c.args.value.now (sym c.in-Array.is)
+returns-in-Array c = array_seen c.in-Array.items c.args.value.now (sym c.in-Array.is)
