@@ -6,7 +6,9 @@ use std::test::*;
 fn parts_of_a_value(rt: HostRuntime) -> Result<(), Fail> {
     let text = "{\"b\":[1,-2,\"x\\u0041\"],\"a\":1,\"a\":18446744073709551615}";
     let mut scratch = Scratch::new(rt.alloc());
-    let value = parse(rt.alloc(), text.as_bytes(), &mut scratch).ok().ok_or("a value")?;
+    let value = parse(rt.alloc(), text.as_bytes(), &mut scratch)
+        .ok()
+        .ok_or("a value")?;
     assert!(rt; has_only(&value, &["a", "b"]));
     assert!(rt; !has_only(&value, &["a"]));
     let last = get(&value, "a").ok_or("a member")?;
@@ -20,9 +22,18 @@ fn parts_of_a_value(rt: HostRuntime) -> Result<(), Fail> {
 
 #[test]
 fn texts_without_a_value(rt: HostRuntime) -> Result<(), Fail> {
-    for text in [&b"[1"[..], b"[1e999]", b"{\"a\":-1e999,\"a\":1}", b"\"\xff\"", b"1 2"] {
+    for text in [
+        &b"[1"[..],
+        b"[1e999]",
+        b"{\"a\":-1e999,\"a\":1}",
+        b"\"\xff\"",
+        b"1 2",
+    ] {
         let mut scratch = Scratch::new(rt.alloc());
-        assert_eq!(rt; parse(rt.alloc(), text, &mut scratch).err(), Some(TextEnd::NotJson));
+        assert_eq!(rt;
+            parse(rt.alloc(), text, &mut scratch).err(),
+            Some(TextEnd::NotJson)
+        );
     }
     Ok(())
 }

@@ -10,8 +10,8 @@ ghost use Rattle.tree_from_json.specs.Ends.{Reads};
 use crate::read_ends::{ReadEnd, Shape, fault_here};
 use crate::read_parts::string;
 use carrier_io::NoMemory;
-use prop_names::Guid;
 use json::Value;
+use prop_names::Guid;
 use std::alloc::Global;
 
 /// The value of a digit. The letters from ten on begin with the given one.

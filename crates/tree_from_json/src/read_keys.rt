@@ -10,9 +10,9 @@ use crate::read_digits::{read_guid, read_id};
 use crate::read_ends::{ReadEnd, Shape, fault_here, under};
 use crate::read_parts::{has_members, member, number_up_to};
 use crate::read_texts::read_name;
-use prop_names::{Key, Name};
 use json::Value;
 use json_values::as_str;
+use prop_names::{Key, Name};
 use std::alloc::Global;
 
 /// The most units of a name's text.

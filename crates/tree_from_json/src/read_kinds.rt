@@ -8,8 +8,8 @@ ghost use Rattle.tree_from_json.specs.KindRows.{kind_row};
 
 use crate::read_ends::{ReadEnd, Shape, fault_here};
 use crate::read_parts::string;
-use prop_values::Kind;
 use json::Value;
+use prop_values::Kind;
 use std::alloc::Global;
 
 /// The kinds in the order of their numbers.

@@ -13,8 +13,8 @@ use crate::read_ends::{ReadEnd, Shape, fault_here, under};
 use crate::read_parts::{items, number_up_to};
 use crate::read_texts::read_text;
 use carrier_io::Numbers;
-use prop_values::{Guids, Kind, Parts};
 use json::Value;
+use prop_values::{Guids, Kind, Parts};
 use std::alloc::Global;
 
 /// One above the most elements of a value.

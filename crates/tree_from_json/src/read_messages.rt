@@ -10,8 +10,8 @@ use crate::read_ends::{ReadEnd, Shape, fault_here, under};
 use crate::read_parts::{has_members, items, member};
 use crate::read_props::read_props;
 use crate::read_stores::read_store;
-use msg_tree::{Attachment, Attachments, Body, Message, Recipients};
 use json::Value;
+use msg_tree::{Attachment, Attachments, Body, Message, Recipients};
 use std::alloc::Global;
 
 fn read_recipients(alloc: Global, value: &Value) -> Result<Recipients<Vec<u8>>, ReadEnd>

@@ -12,8 +12,8 @@ use crate::read_kinds::read_kind;
 use crate::read_parts::{has_members, items, member};
 use crate::read_values::read_value;
 use carrier_io::NoMemory;
-use prop_values::{InsertEnd, Prop, Props};
 use json::Value;
+use prop_values::{InsertEnd, Prop, Props};
 use std::alloc::Global;
 
 /// A property. Its kind is tested before its other members.
