@@ -2,6 +2,7 @@ pub mod Building
 pub mod EntryLists
 pub mod Hex
 pub mod InOrder
+pub mod Members
 pub mod Paths
 pub mod Props
 pub mod Reading

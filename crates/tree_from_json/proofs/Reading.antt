@@ -1,13 +1,7 @@
 -- Steps of readings: what a part answers, and what stands behind it.
 use Rattle.std.proofs.Common.{◌≡◌, ℕ, suc, List, [], ◌∷◌, length, refl, ap, sym, ◌∙◌, String, Global}
 use Rattle.std.specs.Prelude.{Result, Ok, Err, Some}
-use Rattle.serde_json.specs.Data.{Data, null, boolean, number, string, array, object}
-use Rattle.serde_json.specs.Events.{members_len}
-use Rattle.serde_json.specs.Find.{as_object}
-use Rattle.serde_json.specs.View.{members_view}
-use Rattle.serde_json.specs.declared.value.Value.{Value}
 use Rattle.json_model.specs.Faults.{JsonFault, ◌>>=◌, mapped}
-use Rattle.json_model.specs.Parts.{member_count}
 use Rattle.json_model.specs.Faults as plain
 use Rattle.tree_from_json.specs.Ends.{Reads, ReadsBelow}
 use Rattle.tree_from_json.specs.declared.read_ends.ReadEnd.{ReadEnd}
@@ -44,17 +38,3 @@ pub mapped_err : {A B X Y : Type 0} (view : X → A) (other : Y → B) (f : A �
     → Reads view model (Err e) → Reads other (mapped f model) (Err e)
 mapped_err view other f model (ends.Fault g) h = rw h refl
 mapped_err view other f model ends.NoMemory h = tt
-
--- ---- members
-
-members_counted : (ms : List (String Global × Value)) → length ms ≡ members_len (members_view ms)
-members_counted [] = refl
-members_counted (m ∷ ms) = ap suc (members_counted ms)
-
-pub members_are : (ms : List (String Global × Value)) (d : Data) → Some (members_view ms) ≡ as_object d → length ms ≡ member_count d
-members_are ms (object os) h = let same : members_view ms ≡ os = cc in members_counted ms ∙ ap members_len same
-members_are ms null h = absurd cc
-members_are ms (boolean b) h = absurd cc
-members_are ms (number n) h = absurd cc
-members_are ms (string s) h = absurd cc
-members_are ms (array ds) h = absurd cc

@@ -4,14 +4,14 @@ ghost use Rattle.std.specs.List.{list_all};
 ghost use Rattle.std.specs.Option.{option_map};
 ghost use Rattle.carrier_model.specs.KeyTexts.{lower, upper};
 ghost use Rattle.json_model.specs.Digits.{is_digit, is_hex, digit_of as plain_digit, bytes_in as plain_bytes, number_in, read_hex as plain_hex, read_groups as plain_groups, read_guid as plain_guid, read_id as plain_id};
-ghost use Rattle.serde_json.specs.View.{view};
+ghost use Rattle.json_values.specs.View.{view};
 ghost use Rattle.tree_from_json.specs.Ends.{Reads};
 
 use crate::read_ends::{ReadEnd, Shape, fault_here};
 use crate::read_parts::string;
 use carrier_io::NoMemory;
+use json::Value;
 use prop_names::Guid;
-use serde_json::Value;
 use std::alloc::Global;
 
 /// The value of a digit. The letters from ten on begin with the given one.

@@ -3,15 +3,16 @@ ghost use Rattle.std.specs.Prelude.{◌^◌};
 ghost use Rattle.json_model.specs.Parts.{number_below};
 ghost use Rattle.json_model.specs.Properties.{read_numbered as plain_numbered, read_texted as plain_texted, read_named as plain_named, read_key as plain_key};
 ghost use Rattle.prop_names.specs.Meaning.{key_of, name_of};
-ghost use Rattle.serde_json.specs.View.{view};
+ghost use Rattle.json_values.specs.View.{view};
 ghost use Rattle.tree_from_json.specs.Ends.{Reads};
 
 use crate::read_digits::{read_guid, read_id};
 use crate::read_ends::{ReadEnd, Shape, fault_here, under};
 use crate::read_parts::{has_members, member, number_up_to};
 use crate::read_texts::read_name;
+use json::Value;
+use json_values::as_str;
 use prop_names::{Key, Name};
-use serde_json::Value;
 use std::alloc::Global;
 
 /// The most units of a name's text.
@@ -62,7 +63,7 @@ fn read_named(alloc: Global, value: &Value) -> Result<Name, ReadEnd>
 pub(crate) fn read_key(alloc: Global, value: &Value) -> Result<Key, ReadEnd>
     ensures { Reads key_of (plain_key (view value.now)) result }
 {
-    match value.as_str() {
+    match as_str(value) {
         Some(text) => Ok(Key::Id(read_id(alloc, text)?)),
         None => Ok(Key::Named(read_named(alloc, value)?)),
     }

@@ -2,14 +2,14 @@
 ghost use Rattle.std.specs.Prelude.{◌≡◌, bytes_eq, map};
 ghost use Rattle.json_model.specs.Properties.{kind_among as plain_among, read_kind as plain_kind};
 ghost use Rattle.prop_values.specs.Kinds.{kind_number};
-ghost use Rattle.serde_json.specs.View.{view};
+ghost use Rattle.json_values.specs.View.{view};
 ghost use Rattle.tree_from_json.specs.Ends.{Reads};
 ghost use Rattle.tree_from_json.specs.KindRows.{kind_row};
 
 use crate::read_ends::{ReadEnd, Shape, fault_here};
 use crate::read_parts::string;
+use json::Value;
 use prop_values::Kind;
-use serde_json::Value;
 use std::alloc::Global;
 
 /// The kinds in the order of their numbers.

@@ -5,7 +5,7 @@ ghost use Rattle.json_model.specs.Parts.{number_below};
 ghost use Rattle.json_model.specs.Properties.{bytes_limit as plain_limit, read_bytes as plain_bytes, read_list};
 ghost use Rattle.json_model.specs.Texts.{read_text as plain_text};
 ghost use Rattle.prop_values.specs.Kinds.{kind_number};
-ghost use Rattle.serde_json.specs.View.{view};
+ghost use Rattle.json_values.specs.View.{view};
 ghost use Rattle.tree_from_json.specs.Ends.{Reads};
 
 use crate::read_digits::{read_guid, read_hex};
@@ -13,8 +13,8 @@ use crate::read_ends::{ReadEnd, Shape, fault_here, under};
 use crate::read_parts::{items, number_up_to};
 use crate::read_texts::read_text;
 use carrier_io::Numbers;
+use json::Value;
 use prop_values::{Guids, Kind, Parts};
-use serde_json::Value;
 use std::alloc::Global;
 
 /// One above the most elements of a value.
@@ -56,7 +56,7 @@ pub(crate) fn read_numbers(alloc: Global, value: &Value, most: u64) -> Result<Nu
     ensures { Reads (λ list. list) (read_list (number_below (most + 1)) (view value.now)) result }
 {
     let mut list = Numbers::new(alloc);
-    for item in items(alloc, value)? {
+    for item in items(alloc, value)?.as_slice() {
         let step = list.len() as u64;
         list.push(under(number_up_to(alloc, item, most), step)?)?;
     }
@@ -71,7 +71,7 @@ pub(crate) fn read_guids(alloc: Global, value: &Value) -> Result<Guids, ReadEnd>
     ensures { Reads (λ list. list) (read_list plain_guid (view value.now)) result }
 {
     let mut list = Guids::new(alloc);
-    for item in items(alloc, value)? {
+    for item in items(alloc, value)?.as_slice() {
         let step = list.len() as u64;
         list.push(under(read_guid(alloc, item), step)?)?;
     }
@@ -90,7 +90,7 @@ pub(crate) fn read_parts(
     ensures { Reads (λ list. list) (read_list (plain_bytes (kind_number kind)) (view value.now)) result }
 {
     let mut list = Parts::new(alloc);
-    for item in items(alloc, value)? {
+    for item in items(alloc, value)?.as_slice() {
         let step = list.len() as u64;
         list.push(under(read_bytes(alloc, kind, item), step)?)?;
     }

@@ -1,5 +1,5 @@
 //! Messages in messages, read.
-ghost use Rattle.serde_json.specs.View.{view};
+ghost use Rattle.json_values.specs.View.{view};
 ghost use Rattle.json_model.specs.MessageForms as plain;
 ghost use Rattle.json_model.specs.Parts.{read_each};
 ghost use Rattle.json_model.specs.Properties.{read_props as props_meant};
@@ -10,14 +10,14 @@ use crate::read_ends::{ReadEnd, Shape, fault_here, under};
 use crate::read_parts::{has_members, items, member};
 use crate::read_props::read_props;
 use crate::read_stores::read_store;
+use json::Value;
 use msg_tree::{Attachment, Attachments, Body, Message, Recipients};
-use serde_json::Value;
 use std::alloc::Global;
 
 fn read_recipients(alloc: Global, value: &Value) -> Result<Recipients<Vec<u8>>, ReadEnd>
     ensures { Reads (λ r. r) (read_each props_meant (view value.now)) result }
 {
-    let values = items(alloc, value)?;
+    let values = items(alloc, value)?.as_slice();
     let mut all = Recipients::new(alloc);
     for k in 0..values.len() {
         let props = under(read_props(alloc, &values[k]), k as u64)?;
@@ -89,7 +89,7 @@ fn read_attachments(
 ) -> Result<Attachments<Vec<u8>>, ReadEnd>
     ensures { Reads (list_of (λ b. b.items)) (read_each (plain.read_attachment (plain.read_within levels)) (view value.now)) result }
 {
-    let values = items(alloc, value)?;
+    let values = items(alloc, value)?.as_slice();
     let mut all = Attachments::new(alloc);
     for k in 0..values.len() {
         let attachment = under(read_attachment(alloc, &values[k], levels), k as u64)?;

@@ -3,7 +3,7 @@ ghost use Rattle.std.specs.Prelude.{◌≡◌, ◌++◌, ◌∷◌, [], IfOk, On
 ghost use Rattle.carrier_model.specs.Sorted.{IsStrictlySorted};
 ghost use Rattle.carrier_model.specs.Values.{prop_cmp};
 ghost use Rattle.json_model.specs.Properties.{comes_after as comes_plain, read_next_prop as plain_next, read_prop as plain_prop, read_props as plain_props};
-ghost use Rattle.serde_json.specs.View.{view};
+ghost use Rattle.json_values.specs.View.{view};
 ghost use Rattle.tree_from_json.specs.Ends.{Reads};
 
 use crate::read_ends::{ReadEnd, Shape, fault_here, under};
@@ -12,8 +12,8 @@ use crate::read_kinds::read_kind;
 use crate::read_parts::{has_members, items, member};
 use crate::read_values::read_value;
 use carrier_io::NoMemory;
+use json::Value;
 use prop_values::{InsertEnd, Prop, Props};
-use serde_json::Value;
 use std::alloc::Global;
 
 /// A property. Its kind is tested before its other members.
@@ -74,7 +74,7 @@ pub(crate) fn read_props(alloc: Global, value: &Value) -> Result<Props<Vec<u8>>,
     ensures { Reads (λ props. props) (plain_props (view value.now)) result }
 {
     let mut props = Props::new(alloc);
-    for item in items(alloc, value)? {
+    for item in items(alloc, value)?.as_slice() {
         let step = props.len() as u64;
         let prop = under(read_next_prop(alloc, &props, item), step)?;
         push_prop(&mut props, prop)?;

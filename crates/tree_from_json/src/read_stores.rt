@@ -1,7 +1,7 @@
 //! Stores from JSON values. [MS-CFB 1.3 and 2.6]
 ghost use Rattle.std.specs.Prelude.{◌≡◌, ◌<◌, ◌++◌, ◌∷◌, [], IfOk, OnOk, IfSome, IfNone, length, map};
 ghost use Rattle.std.specs.List.{list_all};
-ghost use Rattle.serde_json.specs.View.{view};
+ghost use Rattle.json_values.specs.View.{view};
 ghost use Rattle.carrier_model.specs.FileTrees.{sorted};
 ghost use Rattle.carrier_model.specs.Lookups.{same_name};
 ghost use Rattle.carrier_model.specs.Stores.{PROPERTIES as plain_properties};
@@ -18,8 +18,8 @@ use crate::read_entries::read_entries;
 use crate::read_parts::{has_members, member};
 use crate::siblings::sibling_order;
 use carrier_io::{NoMemory, Units};
+use json::Value;
 use msg_tree::{Member, Members, Store};
-use serde_json::Value;
 use std::alloc::Global;
 use std::cmp::Ordering;
 use std::collections::VecDeque;

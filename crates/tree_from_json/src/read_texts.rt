@@ -3,14 +3,15 @@ ghost use Rattle.std.specs.Prelude.{◌≡◌, ◌++◌, IfOk, OnOk};
 ghost use Rattle.std.specs.Char.Escape.{encode_utf16};
 ghost use Rattle.carrier_model.specs.Bytes.{unit_bytes, units_of};
 ghost use Rattle.json_model.specs.Texts.{read_units as plain_units, read_text as plain_text, read_name as plain_name, utf16_of};
-ghost use Rattle.serde_json.specs.View.{view};
+ghost use Rattle.json_values.specs.View.{view};
 ghost use Rattle.tree_from_json.specs.Ends.{Reads};
 
 use crate::read_digits::read_groups;
 use crate::read_ends::{ReadEnd, Shape, fault_here, under};
 use crate::read_parts::{has_members, member};
 use carrier_io::{NoMemory, Units};
-use serde_json::Value;
+use json::Value;
+use json_values::as_str;
 use std::alloc::Global;
 
 /// Appends the units of a character, the low byte of each first.
@@ -51,7 +52,7 @@ fn read_units(alloc: Global, value: &Value) -> Result<Vec<u8>, ReadEnd>
 pub(crate) fn read_text(alloc: Global, value: &Value) -> Result<Vec<u8>, ReadEnd>
     ensures { Reads (λ v. v.items) (plain_text (view value.now)) result }
 {
-    match value.as_str() {
+    match as_str(value) {
         Some(text) => Ok(wide_text(alloc, text)?),
         None => read_units(alloc, value),
     }

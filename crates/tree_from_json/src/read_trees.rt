@@ -7,8 +7,9 @@ ghost use Rattle.tree_from_json.specs.Told.{IsFirstEnd};
 use crate::read_ends::{JsonEnd, JsonFault, Shape, told};
 use crate::read_messages::read_message;
 use carrier_io::Numbers;
+use json::Scratch;
+use json_values::{TextEnd, parse};
 use msg_tree::Tree;
-use serde_json::Value;
 use std::alloc::Global;
 
 /// How many levels a tree may have, the top message's among them.
@@ -19,19 +20,16 @@ pub fn tree_of(alloc: Global, bytes: &[u8]) -> Result<Tree<Vec<u8>>, JsonEnd>
     ensures tree { IfOk result (λ t. TextMeansTree bytes.now (plain_of t)) }
     ensures fault { IfErr result (IsFirstEnd bytes.now) }
 {
-    match Value::from_slice(alloc, bytes) {
+    let mut scratch = Scratch::new(alloc);
+    match parse(alloc, bytes, &mut scratch) {
         Ok(value) => match read_message(alloc, &value, LEVELS) {
             Ok(message) => Ok(Tree::from_shallow(message)),
             Err(end) => Err(told(alloc, end)),
         },
-        Err(error) => {
-            if error.is_memory() {
-                return Err(JsonEnd::NoMemory);
-            }
-            Err(JsonEnd::Fault(JsonFault {
-                why: Shape::NotJson,
-                path: Numbers::new(alloc),
-            }))
-        }
+        Err(TextEnd::NotJson) => Err(JsonEnd::Fault(JsonFault {
+            why: Shape::NotJson,
+            path: Numbers::new(alloc),
+        })),
+        Err(TextEnd::NoMemory) => Err(JsonEnd::NoMemory),
     }
 }

@@ -5,15 +5,15 @@ ghost use Rattle.json_model.specs.Properties.{number_limit, read_value as plain_
 ghost use Rattle.prop_values.specs.Kinds.{kind_number};
 ghost use Rattle.prop_values.specs.Meaning.{value_of};
 ghost use Rattle.prop_values.specs.Shapes.{IsWidth};
-ghost use Rattle.serde_json.specs.View.{view};
+ghost use Rattle.json_values.specs.View.{view};
 ghost use Rattle.tree_from_json.specs.Ends.{Reads};
 
 use crate::read_digits::read_guid;
 use crate::read_ends::ReadEnd;
 use crate::read_lists::{read_bytes, read_guids, read_numbers, read_parts};
 use crate::read_parts::number_up_to;
+use json::Value as Json;
 use prop_values::{Kind, Shape, Value};
-use serde_json::Value as Json;
 use std::alloc::Global;
 
 /// The greatest number of so many bytes.

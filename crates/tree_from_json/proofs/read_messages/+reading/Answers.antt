@@ -1,13 +1,13 @@
 use Rattle.std.proofs.Common.{◌≡◌, ◌∙◌, ◌-◌, ◌<◌, ◌∷◌, [], true, sym, ap, subst, length, length-append, arith, List, ℕ, Vec, Global}
-use Rattle.std.specs.Prelude.{Ok}
+use Rattle.std.specs.Prelude.{Ok, Err}
 use Rattle.std.proofs.lemmas.Result.{err_from_is_err_and}
-use Rattle.serde_json.specs.View.{view}
+use Rattle.json_values.specs.View.{view, items_view}
 use Rattle.json_model.specs.MessageForms.{MESSAGE, read_attachment, read_within}
 use Rattle.json_model.specs.Parts.{has_members, read_each}
 use Rattle.json_model.specs.Properties.{read_props}
 use Rattle.msg_tree.specs.Meaning.{tree_of, list_of, attached_of}
 use Rattle.tree_from_json.proofs.Reading.{under_ok, under_err}
-use Rattle.tree_from_json.proofs.Turns.{turn_ok}
+use Rattle.tree_from_json.proofs.Turns.{turn_ok, turn_err, array_err}
 use Rattle.tree_from_json.specs.Ends.{ReadsBelow}
 use Rattle.carrier_model.specs.Tree.{Attached}
 use Rattle.tree_from_json.proofs.WholeMessages.{attachments_err, props_err, recipients_err, message_read, message_rolled}
@@ -27,8 +27,18 @@ read_attachments-loop-k-preserved t c =
     let below = subst (λ k. ReadsBelow k c.read_attachment.result (Ok c.in_ok-attachment.attachment)) (sym n) c.in_ok-attachment.ensures in
     record {
       count = omega (arith, n, added, more);
-      turns = turn_ok (attached_of items_of) (λ before. read) all c.loop-k.k c.in_ok-values.values.now c.index-values-k.result c.read_attachment.result c.in_ok-attachment.attachment _ (omega (arith, c.loop-k-test.true)) c.index-values-k.is c.read_attachment.ensures below c.in_ok-push.ensures.ok c.loop-k.invariant.turns;
+      turns = turn_ok (attached_of items_of) (λ before. read) all c.loop-k.k c.as_slice-values.result.now c.index-values-k.result c.read_attachment.result c.in_ok-attachment.attachment _ (omega (arith, c.loop-k-test.true)) c.index-values-k.is c.read_attachment.ensures below c.in_ok-push.ensures.ok c.loop-k.invariant.turns;
     }
+
+pub read_attachments-returns-in_err-attachment : goal.read_attachments-returns-in_err-attachment
+read_attachments-returns-in_err-attachment t c =
+    let p = err_from_is_err_and c.from_residual-in_err-attachment.result c.from_residual-in_err-attachment.ensures.1 in
+    let read = read_attachment (read_within c.args.levels) in
+    let e = c.in_err-attachment.field-0.0 in
+    let below = subst (λ k. ReadsBelow k c.read_attachment.result (Err e)) (sym c.loop-k.invariant.count) c.in_err-attachment.ensures in
+    let found = c.in_ok-items.ensures ∙ ap (λ l. Ok (items_view l)) (sym c.as_slice-values.ensures.value) in
+    array_err (list_of items_of) (λ before. read) (view c.args.value.now) _ e _ found (p.1 ∙ ap Err p.2)
+    (turn_err (attached_of items_of) (list_of items_of) (λ before. read) (list_of items_of c.loop-k.all) c.loop-k.k c.as_slice-values.result.now c.index-values-k.result c.read_attachment.result e (omega (arith, c.loop-k-test.true)) c.index-values-k.is c.read_attachment.ensures below c.loop-k.invariant.turns)
 
 pub read_message-returns-in_err-attachments-2 : goal.read_message-returns-in_err-attachments-2
 read_message-returns-in_err-attachments-2 t c =

@@ -1,7 +1,7 @@
 use Rattle.std.proofs.Common.{◌∙◌, ap, sym, ℕ, Vec, Global}
 use Rattle.std.specs.Prelude.{Err}
 use Rattle.std.proofs.lemmas.Result.{err_from_is_err_and}
-use Rattle.serde_json.specs.View.{view}
+use Rattle.json_values.specs.View.{view}
 use Rattle.prop_names.specs.Meaning.{key_of}
 use Rattle.prop_values.specs.Kinds.{kind_number}
 use Rattle.prop_values.specs.Meaning.{value_of}

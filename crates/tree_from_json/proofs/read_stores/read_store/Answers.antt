@@ -1,7 +1,7 @@
 use Rattle.std.proofs.Common.{◌≡◌, ◌∙◌, true, sym, ap, map}
 use Rattle.std.specs.Prelude.{Ok}
 use Rattle.std.specs.List.{list_all}
-use Rattle.serde_json.specs.View.{view}
+use Rattle.json_values.specs.View.{view}
 use Rattle.json_model.specs.Digits.{read_guid}
 use Rattle.json_model.specs.Parts.{has_members}
 use Rattle.json_model.specs.StoreForms.{STORE, is_fit, read_entries}

@@ -1,5 +1,5 @@
 use Rattle.std.proofs.Common.{sym, subst}
-use Rattle.serde_json.specs.View.{view}
+use Rattle.json_values.specs.View.{view}
 use Rattle.json_model.specs.JsonMeanings.{JsonMeans}
 use Rattle.json_model.proofs.SoundMessages.{read_is_meant}
 use Rattle.tree_from_json.proofs.WholeMessages.{read_shallow, read_stores_are}

@@ -1,8 +1,8 @@
 use Rattle.std.proofs.Common.{◌≡◌, drop, map, is_some}
 use Rattle.std.specs.List.{list_all}
 use Rattle.serde_json.specs.Find.{get}
-use Rattle.serde_json.specs.View.{view}
-use Rattle.tree_from_json.proofs.read_parts.has_members.Given as goal
+use Rattle.json_values.specs.View.{view}
+use Rattle.tree_from_json.proofs.read_parts.has_all.Given as goal
 
 abbrev pub invariant-loop-name : goal.invariant-loop-name
 invariant-loop-name l =

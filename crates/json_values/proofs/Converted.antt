@@ -1,0 +1,45 @@
+-- A text whose numbers are in range is read as the data of its value, and any other as nothing.
+use Rattle.std.proofs.Common.{◌≡◌, ◌∙◌, refl, ap, ℕ, List, [], Bool, true, false, ◌&&◌, cond, Option, Some, None, option_map, option_and_then, is_some}
+use Rattle.json.specs.Json as json
+use Rattle.json.specs.Lex.{tokens}
+use Rattle.serde_json.specs.Data.{Num, Data, number, array, object, Items, item, Members, no_members, put}
+use Rattle.serde_json.specs.Read.{number_of, of_json, of_items, of_members, max_depth, read}
+use Rattle.json_values.specs.Ranges.{in_range, items_in_range, members_in_range}
+use Rattle.json_values.specs.View.{in_place, data_of, items_data, with_members}
+
+one_number : (o : Option Num) → option_map number o ≡ cond (is_some o) (Some (number (in_place o))) None
+one_number None = refl
+one_number (Some n) = refl
+
+mapped : {A B : Type 0} (f : A → B) (b : Bool) (x : A) → option_map f (cond b (Some x) None) ≡ cond b (Some (f x)) None
+mapped f true x = refl
+mapped f false x = refl
+
+then_more : {A B : Type 0} (next : A → Option B) (a b : Bool) (x : A) (y : B) → next x ≡ cond b (Some y) None → option_and_then next (cond a (Some x) None) ≡ cond (a && b) (Some y) None
+then_more next true b x y is = is
+then_more next false b x y is = refl
+
+mutual
+  pub read_is : (j : json.Json) → of_json j ≡ cond (in_range j) (Some (data_of j)) None
+  read_is json.null = refl
+  read_is (json.boolean b) = refl
+  read_is (json.number s) = one_number (number_of s)
+  read_is (json.string s) = refl
+  read_is (json.array js) = ap (option_map array) (items_are js) ∙ mapped array (items_in_range js) (items_data js)
+  read_is (json.object ms) = ap (option_map object) (members_are ms no_members) ∙ mapped object (members_in_range ms) (with_members ms no_members)
+
+  items_are : (js : json.Items) → of_items js ≡ cond (items_in_range js) (Some (items_data js)) None
+  items_are json.no_items = refl
+  items_are (json.item j js) =
+      ap (option_and_then (λ d. option_map (item d) (of_items js))) (read_is j)
+      ∙ then_more (λ d. option_map (item d) (of_items js)) (in_range j) (items_in_range js) (data_of j) (item (data_of j) (items_data js)) (ap (option_map (item (data_of j))) (items_are js) ∙ mapped (item (data_of j)) (items_in_range js) (items_data js))
+
+  members_are : (ms : json.Members) (found : Members) → of_members ms found ≡ cond (members_in_range ms) (Some (with_members ms found)) None
+  members_are json.no_members found = refl
+  members_are (json.member k j ms) found =
+      ap (option_and_then (λ d. of_members ms (put k d found))) (read_is j)
+      ∙ then_more (λ d. of_members ms (put k d found)) (in_range j) (members_in_range ms) (data_of j) (with_members ms (put k (data_of j) found)) (members_are ms (put k (data_of j) found))
+
+-- what a text is read as whose value is this
+pub whole_is : (text : List ℕ) (j : json.Json) → json.value max_depth (tokens text) ≡ Some (j, []) → read text ≡ cond (in_range j) (Some (data_of j)) None
+whole_is text j e = ap (λ r. option_and_then of_json (option_and_then (λ p. json.if_last p.0 p.1) r)) e ∙ read_is j

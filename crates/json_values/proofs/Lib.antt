@@ -1,0 +1,4 @@
+pub mod Converted
+pub mod Counted
+pub mod Keys
+pub mod Views

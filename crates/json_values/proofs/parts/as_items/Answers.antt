@@ -1,0 +1,7 @@
+use Rattle.std.proofs.Common.{◌∙◌, ap, sym, Some}
+use Rattle.json_values.specs.View.{items_view}
+use Rattle.json_values.proofs.Views.{array_seen}
+use Rattle.json_values.proofs.parts.as_items.Goals as goal
+
+pub returns-in-Array : goal.returns-in-Array
+returns-in-Array c = array_seen c.in-Array.items c.args.value.now (sym c.in-Array.is)
