@@ -1,9 +1,9 @@
 -- The meaning of a message and of an attachment that are made of parts.
-use Rattle.std.proofs.Common.{◌≡◌, ◌∙◌, ap, sym, refl, ℕ, List}
+use Rattle.std.proofs.Common.{◌≡◌, ◌∙◌, ap, sym, ℕ, List}
 use Rattle.std.specs.Prelude.{Result, Ok, Err}
 use Rattle.carrier_model.specs.Values.{Prop}
 use Rattle.prop_values.specs.declared.prop_list.Props.{Props}
-use Rattle.edit_model.specs.Edits.{Why, with_recipients, with_attachments, with_props, body_with, with_body}
+use Rattle.edit_model.specs.Edits.{Why, with_attachments, with_props, body_with, with_body}
 use Rattle.msg_tree.proofs.Unrolled.{tree_out, attached_out}
 use Rattle.tree_edit.proofs.Steps.{attachments_ok, attachments_err, props_ok, props_err, body_ok}
 use Rattle.carrier_model.specs.Tree as plain
@@ -33,9 +33,6 @@ module _ {B : Type 0} (bytes_of : B → List ℕ) where
 
   pub attachments_fail : (change : List plain.Attached → Result (List plain.Attached) Why) (m : Message B) (why : Why) → change (list_of bytes_of (out-Message B m).attachments) ≡ Err why → with_attachments change (tree_of bytes_of m) ≡ Err why
   attachments_fail change m why h = ap (with_attachments change) (tree_out bytes_of m) ∙ attachments_err change (out-Message B m).props (out-Message B m).recipients (list_of bytes_of (out-Message B m).attachments) why h
-
-  pub recipients_fail : (change : List (List Prop) → Result (List (List Prop)) Why) (m : Message B) (why : Why) → change (out-Message B m).recipients ≡ Err why → with_recipients change (tree_of bytes_of m) ≡ Err why
-  recipients_fail change m why h = ap (with_recipients change) (tree_out bytes_of m) ∙ rw h refl
 
   -- an attachment with other properties, or without a change of them
   pub props_done : (change : List Prop → Result (List Prop) Why) (a : Attachment B) (props : Props B) → change (out-Attachment B a).props ≡ Ok props → with_props change (attached_of bytes_of a) ≡ Ok (attached_of bytes_of (roll-Attachment B (record { props = props; body = (out-Attachment B a).body })))

@@ -78,9 +78,6 @@ without_sorted key kind l s = AllPairs-filter (λ x y. prop_cmp x y ≡ Less) (�
 pub set_sorted : (l : List Prop) (p : Prop) → IsStrictlySorted prop_cmp l → IsStrictlySorted prop_cmp (set_in l p)
 set_sorted l p s = with_element_sorted prop_total (without_pair p.key (kind_of p.value) l) p (without_sorted p.key (kind_of p.value) l s) (λ y (k, lt, at) e. none_left p l (k, y, lt, at, e))
 
-pub nothing_sorted : IsStrictlySorted prop_cmp []
-nothing_sorted i j d lt in_range = absurd (omega (arith, in_range))
-
 -- ---- entries of a map
 
 insert_paired : (l : List Prop) (p : Prop) → IsStrictlySorted prop_cmp l → insert_entry prop_cmp (map paired l) (with_pair p.key (kind_of p.value)) p ≡ map paired (set_in l p)

@@ -39,7 +39,7 @@ fn rows_of(
     alloc: Global,
     attachments: &mut Attachments<Vec<u8>>,
 ) -> Result<Rows<Attachment<Vec<u8>>>, NoMemory>
-    ensures { IfOk result (λ rows. (map (attached_of (λ v. v.items)) (listed rows)) ≡ (list_of (λ v. v.items) attachments.old)) }
+    ensures { IfOk result (λ rows. map (attached_of (λ v. v.items)) (listed rows) ≡ list_of (λ v. v.items) attachments.old) }
 {
     let mut rows = Rows::new(alloc);
     for k in 0..attachments.len() {
@@ -50,7 +50,7 @@ fn rows_of(
 
 /// Moves the attachments of rows into a list.
 fn of_rows(alloc: Global, rows: Rows<Attachment<Vec<u8>>>) -> Result<Attachments<Vec<u8>>, NoMemory>
-    ensures { IfOk result (λ list. (list_of (λ v. v.items) list) ≡ (map (attached_of (λ v. v.items)) (listed rows))) }
+    ensures { IfOk result (λ list. list_of (λ v. v.items) list ≡ map (attached_of (λ v. v.items)) (listed rows)) }
 {
     let mut list = Attachments::new(alloc);
     for item in rows.into_list(alloc)? {
@@ -62,7 +62,7 @@ fn of_rows(alloc: Global, rows: Rows<Attachment<Vec<u8>>>) -> Result<Attachments
 /// Does an edit of the list in rows. It answers whether it could be done.
 fn edit_rows(rows: &mut Rows<Attachment<Vec<u8>>>, edit: &Edit) -> bool
     ensures done { result ≡ true → on_attachments (edit_of edit.now) (map (attached_of (λ v. v.items)) (listed rows.old)) ≡ Ok (map (attached_of (λ v. v.items)) (listed rows.new)) }
-    ensures absent { result ≡ false → (on_attachments (edit_of edit.now) (map (attached_of (λ v. v.items)) (listed rows.old)) ≡ Err no_place) × ((map (attached_of (λ v. v.items)) (listed rows.new)) ≡ (map (attached_of (λ v. v.items)) (listed rows.old))) }
+    ensures absent { result ≡ false → (on_attachments (edit_of edit.now) (map (attached_of (λ v. v.items)) (listed rows.old)) ≡ Err no_place) × (map (attached_of (λ v. v.items)) (listed rows.new) ≡ map (attached_of (λ v. v.items)) (listed rows.old)) }
 {
     match edit {
         Edit::DropAttachment { number, .. } => rows.remove(*number).is_some(),

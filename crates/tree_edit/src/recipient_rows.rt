@@ -45,7 +45,7 @@ fn rows_of(
     alloc: Global,
     recipients: &mut Recipients<Vec<u8>>,
 ) -> Result<Rows<Props<Vec<u8>>>, NoMemory>
-    ensures { IfOk result (λ rows. (listed rows) ≡ recipients.old) }
+    ensures { IfOk result (λ rows. listed rows ≡ recipients.old) }
 {
     let mut rows = Rows::new(alloc);
     for k in 0..recipients.len() {
@@ -56,7 +56,7 @@ fn rows_of(
 
 /// Moves the recipients of rows into a list.
 fn of_rows(alloc: Global, rows: Rows<Props<Vec<u8>>>) -> Result<Recipients<Vec<u8>>, NoMemory>
-    ensures { IfOk result (λ list. list ≡ (listed rows)) }
+    ensures { IfOk result (λ list. list ≡ listed rows) }
 {
     let mut list = Recipients::new(alloc);
     for item in rows.into_list(alloc)? {
@@ -68,7 +68,7 @@ fn of_rows(alloc: Global, rows: Rows<Props<Vec<u8>>>) -> Result<Recipients<Vec<u
 /// Does an edit of the list in rows. It answers whether it could be done.
 fn edit_rows(alloc: Global, rows: &mut Rows<Props<Vec<u8>>>, edit: &Edit) -> Result<bool, NoMemory>
     ensures done { IfOk result (λ done. done ≡ true → on_recipients (edit_of edit.now) (listed rows.old) ≡ Ok (listed rows.new)) }
-    ensures absent { IfOk result (λ done. done ≡ false → (on_recipients (edit_of edit.now) (listed rows.old) ≡ Err no_place) × ((listed rows.new) ≡ (listed rows.old))) }
+    ensures absent { IfOk result (λ done. done ≡ false → (on_recipients (edit_of edit.now) (listed rows.old) ≡ Err no_place) × (listed rows.new ≡ listed rows.old)) }
 {
     match edit {
         Edit::AddRecipient { .. } => {

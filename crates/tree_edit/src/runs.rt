@@ -14,8 +14,9 @@ use carrier_io::Numbers;
 use msg_tree::Message;
 use std::alloc::Global;
 
-/// So many edits, or more, are done together: fewer cost less one by one.
-const MANY: usize = 16;
+/// So many edits, or more, are done together: fewer cost less one by one, since an edit alone moves the elements of a list
+/// in one block, and this many of such moves take about as long as to take each element out and put it back.
+const MANY: usize = 128;
 
 /// Whether two lists of numbers are the same.
 fn are_same(one: &Numbers, other: &Numbers) -> bool

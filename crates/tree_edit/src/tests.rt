@@ -109,11 +109,11 @@ fn push_edit(
     Ok(())
 }
 
-/// The words of many edits of one place: the ids from 0017 down are set, the first of them twice.
+/// The words of many edits of one place: the ids from 005F down are set, and 0017 before them.
 fn falling_sets(rt: &HostRuntime) -> Result<Vec<String>, Fail> {
     let mut list = Vec::new(rt.alloc());
     push_edit(rt, &mut list, "set", 0x17, &["Integer32", "6"])?;
-    for id in (1..0x18).rev() {
+    for id in (1..0x60).rev() {
         push_edit(rt, &mut list, "set", id, &["Integer32", "1"])?;
     }
     Ok(list)
@@ -122,8 +122,10 @@ fn falling_sets(rt: &HostRuntime) -> Result<Vec<String>, Fail> {
 #[test]
 fn many_edits_of_a_place(rt: HostRuntime) -> Result<(), Fail> {
     let mut list = falling_sets(&rt)?;
-    for id in 1..0x17 {
-        push_edit(&rt, &mut list, "remove", id, &["Integer32"])?;
+    for id in 1..0x60 {
+        if id != 0x17 {
+            push_edit(&rt, &mut list, "remove", id, &["Integer32"])?;
+        }
     }
     let edits = read_edits(rt.alloc(), &list)?.ok_or("edits")?;
     let got = edited(rt.alloc(), &tree(&rt, 2, None)?, &edits);
@@ -132,7 +134,7 @@ fn many_edits_of_a_place(rt: HostRuntime) -> Result<(), Fail> {
     let edits = read_edits(rt.alloc(), &list)?.ok_or("edits")?;
     let got = edited(rt.alloc(), &tree(&rt, 2, None)?, &edits);
     let fault = EditFault {
-        edit: 46,
+        edit: 190,
         why: EditWhy::NoProperty,
     };
     assert!(rt; got.err() == Some(EditEnd::Fault(fault)));
@@ -142,11 +144,11 @@ fn many_edits_of_a_place(rt: HostRuntime) -> Result<(), Fail> {
 #[test]
 fn many_recipients_that_come_and_go(rt: HostRuntime) -> Result<(), Fail> {
     let mut list = Vec::new(rt.alloc());
-    for _ in 0..20 {
+    for _ in 0..70 {
         list.push("add-recipient")?;
         list.push(".")?;
     }
-    for _ in 0..20 {
+    for _ in 0..70 {
         list.push("drop-recipient")?;
         list.push(".")?;
         list.push("0")?;
@@ -158,7 +160,7 @@ fn many_recipients_that_come_and_go(rt: HostRuntime) -> Result<(), Fail> {
     list.push("0")?;
     let got = edited_by(&rt, &list, &tree(&rt, 2, None)?)?;
     let fault = EditFault {
-        edit: 40,
+        edit: 140,
         why: EditWhy::NoPlace,
     };
     assert!(rt; got.err() == Some(EditEnd::Fault(fault)));
