@@ -1,5 +1,5 @@
 -- An object has each key once, so that it has as many members as there are names where they are the same.
-use Rattle.std.proofs.Common.{◌≡◌, ◌∙◌, refl, sym, ap, subst, ℕ, suc, ◌<◌, ◌≤◌, List, [], ◌∷◌, length, Bool, true, false, cond, not, ◌&&◌, ◌||◌, true≢false, bytes_eq, Ordering, Less, Equal, Greater, nat_cmp, is_eq, Option, Some, None, is_some, arith}
+use Rattle.std.proofs.Common.{◌≡◌, ◌∙◌, refl, sym, ap, ℕ, suc, ◌<◌, ◌≤◌, List, [], ◌∷◌, length, Bool, true, false, cond, not, ◌&&◌, ◌||◌, true≢false, bytes_eq, Ordering, Less, Equal, Greater, nat_cmp, is_eq, Option, Some, is_some, arith}
 use Rattle.std.specs.Prelude.{⊤}
 use Rattle.std.proofs.lemmas.Cmp.{nat_list_cmp_total}
 use Rattle.std.proofs.lemmas.Map.Text.{is_eq-slice_cmp}
@@ -8,10 +8,10 @@ use Rattle.std.specs.Cmp.Lexicographic.{slice_cmp}
 use Rattle.std.specs.List.{list_all}
 use Rattle.std.specs.Ordering.{match_ordering, ordering_reverse}
 use Rattle.json.specs.Json as json
-use Rattle.serde_json.specs.Data.{Data, null, boolean, number, string, array, object, Members, no_members, member, put}
+use Rattle.serde_json.specs.Data.{Data, Members, no_members, member, put}
 use Rattle.serde_json.specs.Events.{members_len}
-use Rattle.serde_json.specs.Find.{get, get_member}
-use Rattle.json_values.specs.Keys.{is_among, are_apart, member_keys, keys_of}
+use Rattle.serde_json.specs.Find.{get_member}
+use Rattle.json_values.specs.Keys.{is_among, are_apart, member_keys}
 use Rattle.json_values.specs.View.{data_of, with_members}
 
 -- ---- lists of names

@@ -1,5 +1,5 @@
 -- The keys of an object, and those of the members that went in.
-use Rattle.std.proofs.Common.{◌≡◌, ◌∙◌, refl, sym, ap, ℕ, List, [], ◌∷◌, Bool, true, false, ◌&&◌, bytes_eq, Ordering, Less, Equal, Greater, nat_cmp, is_eq, Bor, Vec, drop, get_or, length, ◌+◌, ◌<◌, ◌≤◌}
+use Rattle.std.proofs.Common.{◌≡◌, ◌∙◌, refl, sym, ap, ℕ, List, ◌∷◌, Bool, true, false, ◌&&◌, Ordering, Less, Equal, Greater, nat_cmp, is_eq, Bor, Vec, drop, get_or, length, ◌+◌, ◌<◌, ◌≤◌}
 use Rattle.std.proofs.lemmas.List.{drop_more, drop_all}
 use Rattle.std.proofs.lemmas.Map.Text.{is_eq-slice_cmp}
 use Rattle.std.proofs.lemmas.Slice.Eq.{bytes_eq-Decides}

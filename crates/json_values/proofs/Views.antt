@@ -6,7 +6,7 @@ use Rattle.json.specs.Json as json
 use Rattle.json.specs.Value.{value_view, items_view as plain_items}
 use Rattle.json.specs.declared.value.Value.{Value, Array}
 use Rattle.json.proofs.Trees.{view-Array}
-use Rattle.serde_json.specs.Data.{Data, array, Members, no_members, put, item}
+use Rattle.serde_json.specs.Data.{Data, Members, no_members, put, item}
 use Rattle.serde_json.specs.Find.{get, get_member, as_array}
 use Rattle.serde_json.proofs.Views.{get_member-put, get_member-put_other}
 use Rattle.json_values.specs.View.{data_of, items_data, with_members, view, items_view}

@@ -1,5 +1,5 @@
 -- The data that a value stands for.
-use Rattle.std.specs.Prelude.{ℕ, negsuc, List, map, Option, Some, None}
+use Rattle.std.specs.Prelude.{negsuc, List, map, Option, Some, None}
 use Rattle.json.specs.Json as json
 use Rattle.json.specs.Value.{value_view}
 use Rattle.json.specs.declared.value.Value.{Value}

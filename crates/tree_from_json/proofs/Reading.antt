@@ -1,6 +1,6 @@
 -- Steps of readings: what a part answers, and what stands behind it.
-use Rattle.std.proofs.Common.{◌≡◌, ℕ, suc, List, [], ◌∷◌, length, refl, ap, sym, ◌∙◌, String, Global}
-use Rattle.std.specs.Prelude.{Result, Ok, Err, Some}
+use Rattle.std.proofs.Common.{◌≡◌, ℕ, refl, ap, sym}
+use Rattle.std.specs.Prelude.{Result, Ok, Err}
 use Rattle.json_model.specs.Faults.{JsonFault, ◌>>=◌, mapped}
 use Rattle.json_model.specs.Faults as plain
 use Rattle.tree_from_json.specs.Ends.{Reads, ReadsBelow}

@@ -1,7 +1,7 @@
-use Rattle.std.proofs.Common.{◌≡◌, ◌∙◌, refl, sym, ap, ◌==◌, ◌&&◌, Bool, cond, drop, get_or, Option, Some, None, option_and_then, true, false, nat_lt, nat_le, ◌^◌}
+use Rattle.std.proofs.Common.{◌≡◌, ◌∙◌, refl, sym, ap, ◌==◌, ◌&&◌, Bool, cond, drop, get_or, Some, None, option_and_then, true, false, nat_lt, nat_le, ◌^◌}
 use Rattle.std.specs.Float.{binary64, float_is_finite}
 use Rattle.fast_float.specs.Text.{Parts, scan, digits_of, nearest, with_sign}
-use Rattle.serde_json.specs.Data.{Num, negative}
+use Rattle.serde_json.specs.Data.{negative}
 use Rattle.serde_json.specs.Find.{as_u64}
 use Rattle.serde_json.specs.Read.{number_of, number_from, float_of, is_integer}
 use Rattle.json_values.proofs.numbers.unsigned_in.Goals as goal

@@ -1,5 +1,4 @@
-use Rattle.std.proofs.Common.{◌∙◌, ap, sym, Some}
-use Rattle.json_values.specs.View.{items_view}
+use Rattle.std.proofs.Common.{sym}
 use Rattle.json_values.proofs.Views.{array_seen}
 use Rattle.json_values.proofs.parts.as_items.Goals as goal
 

@@ -1,4 +1,4 @@
-use Rattle.std.proofs.Common.{◌≡◌, ◌∙◌, sym, map, arith}
+use Rattle.std.proofs.Common.{◌∙◌, sym, map, arith}
 use Rattle.json_values.specs.Keys.{is_among}
 use Rattle.json_values.proofs.Keys.{all_keys, fails_here, holds_to_end}
 use Rattle.json_values.proofs.parts.has_only.Goals as goal

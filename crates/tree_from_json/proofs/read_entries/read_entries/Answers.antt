@@ -1,4 +1,4 @@
-use Rattle.std.proofs.Common.{◌≡◌, ◌∙◌, sym, ap, subst, map, List, [], ◌∷◌, Vec, Global, length, length-append, arith}
+use Rattle.std.proofs.Common.{◌∙◌, sym, ap, subst, map, List, [], ◌∷◌, Vec, Global, length, length-append, arith}
 use Rattle.std.specs.Prelude.{Ok, Err}
 use Rattle.std.proofs.lemmas.List.{map-append, length-map}
 use Rattle.std.proofs.lemmas.Result.{err_from_is_err_and}
