@@ -9,11 +9,12 @@ ghost use Rattle.outlook_cli.specs.Outcome.{PutsChange, PutsFile, TellsChange, W
 
 use crate::telling::stopped;
 use carrier_io::{Blob, Sink};
+use edit_words::Edits;
 use msg_tree::Tree;
 use outlook_status::Status;
 use std::alloc::Global;
 use translate_core::{Input, PutEnd, accept, write_msg};
-use tree_edit::{EditEnd, Edits, edited};
+use tree_edit::{EditEnd, edited};
 use tree_text8::{TextEnd, unicode_of};
 
 /// Writes the .msg file of a message. [MS-OXMSG 2.1]

@@ -7,10 +7,10 @@ ghost use Rattle.job_model.specs.Commands.{command_among, command_of, edit_of, o
 ghost use Rattle.outlook_cli.specs.Words.{command_seen, texts, IsSample};
 
 use carrier_io::NoMemory;
+use edit_words::{Edits, read_edits};
 use std::alloc::{AllocError, Global};
 use std::env;
 use translate_core::Job;
-use tree_edit::{Edits, read_edits};
 
 /// The greatest number of a sample.
 const GREATEST_SAMPLE: u32 = 5000;

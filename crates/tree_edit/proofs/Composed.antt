@@ -9,9 +9,10 @@ use Rattle.carrier_model.proofs.Trees.{drop_at, listed-from}
 use Rattle.edit_model.specs.Edits.{Spot, itself, recipient, attachment, Edit, set_prop, remove_prop, add_recipient, drop_recipient, drop_attachment, Why, there, changed_at, with_recipients, with_attachments, with_props, at_spot, body_with, with_body, at_path, edited_once, edited_from, Makes, ◌>>=◌}
 use Rattle.edit_model.proofs.KeptTrees.{once_depth}
 use Rattle.msg_tree.specs.Keeping.{HasStores}
-use Rattle.tree_edit.specs.Changes.{Part, properties, recipients, attachments, path_of, part_of, on_props, on_recipients, on_attachments, in_turn, on_part, IsOf}
-use Rattle.tree_edit.specs.Meaning.{edit_of}
-use Rattle.tree_edit.specs.declared.edits.Edit as declared
+use Rattle.edit_words.specs.Meaning.{edit_of}
+use Rattle.edit_words.specs.Parts.{Part, properties, recipients, attachments, path_of, part_of}
+use Rattle.edit_words.specs.declared.edits.Edit as declared
+use Rattle.tree_edit.specs.Changes.{on_props, on_recipients, on_attachments, in_turn, on_part, IsOf}
 use Rattle.tree_edit.proofs.Steps.{changed_ok}
 use Rattle.tree_edit.proofs.Stores.{once_stores}
 

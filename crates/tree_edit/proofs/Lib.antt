@@ -1,14 +1,8 @@
 mod Composed
-mod Cuts
-mod Digits
-mod EditSteps
 mod Found
 mod Made
 mod Mapped
-mod Numerals
 mod Once
 mod RowLists
-mod StepWords
 mod Steps
 mod Stores
-mod WideTexts

@@ -1,5 +1,4 @@
 pub mod Changes
 pub mod Mapped
 pub mod Meaning
-pub mod Reading
 pub mod Rows

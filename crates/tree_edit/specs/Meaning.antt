@@ -1,40 +1,13 @@
--- What edits mean, and what the ends of a list of edits say.
-use Rattle.std.specs.Prelude.{◌≡◌, ℕ, List, map, Err, String, string_bytes}
-use Rattle.std.specs.declared.alloc.Global.{Global}
+-- What the ends of a list of edits say.
+use Rattle.std.specs.Prelude.{◌≡◌, List, Err}
 use Rattle.carrier_model.specs.Tree.{Message}
 use Rattle.edit_model.specs.Edits as plain
-use Rattle.edit_model.specs.Edits.{itself, recipient, attachment, set_prop, remove_prop, add_recipient, drop_recipient, drop_attachment, no_place, no_property, edited_tree}
-use Rattle.prop_names.specs.Meaning.{key_of}
-use Rattle.prop_values.specs.Kinds.{kind_number}
-use Rattle.tree_edit.specs.declared.edits.Edit.{Edit}
-use Rattle.tree_edit.specs.declared.edits.Edit.TheVariants as one
-use Rattle.tree_edit.specs.declared.edits.EditEnd.{EditEnd}
-use Rattle.tree_edit.specs.declared.edits.EditEnd.TheVariants as ends
-use Rattle.tree_edit.specs.declared.edits.EditFault.{EditFault}
-use Rattle.tree_edit.specs.declared.edits.EditWhy.{EditWhy}
-use Rattle.tree_edit.specs.declared.edits.EditWhy.TheVariants as whys
-use Rattle.tree_edit.specs.declared.edits.Place.{Place}
-use Rattle.tree_edit.specs.declared.edits.Spot.{Spot}
-use Rattle.tree_edit.specs.declared.edits.Spot.TheVariants as spots
-
--- words, as bytes
-abbrev pub texts : List (String Global) → List (List ℕ)
-texts words = map string_bytes words
-
-abbrev pub spot_of : Spot → plain.Spot
-spot_of spots.Message = itself
-spot_of (spots.Recipient k) = recipient k
-spot_of (spots.Attachment k) = attachment k
-
-abbrev pub place_of : Place → plain.Place
-place_of p = record { path = p.path; spot = spot_of p.spot }
-
-abbrev pub edit_of : Edit → plain.Edit
-edit_of (one.SetProp place prop) = set_prop (place_of place) prop
-edit_of (one.RemoveProp place key kind) = remove_prop (place_of place) (key_of key) (kind_number kind)
-edit_of (one.AddRecipient path) = add_recipient path
-edit_of (one.DropRecipient path k) = drop_recipient path k
-edit_of (one.DropAttachment path k) = drop_attachment path k
+use Rattle.edit_model.specs.Edits.{no_place, no_property, edited_tree}
+use Rattle.tree_edit.specs.declared.ends.EditEnd.{EditEnd}
+use Rattle.tree_edit.specs.declared.ends.EditEnd.TheVariants as ends
+use Rattle.tree_edit.specs.declared.ends.EditFault.{EditFault}
+use Rattle.tree_edit.specs.declared.ends.EditWhy.{EditWhy}
+use Rattle.tree_edit.specs.declared.ends.EditWhy.TheVariants as whys
 
 abbrev pub why_of : EditWhy → plain.Why
 why_of whys.NoPlace = no_place

@@ -2,14 +2,15 @@
 ghost use Rattle.std.specs.Prelude.{◌≡◌, ◌≤◌, [], length, map, take, OnOk, IfOk, IfErr, Ok, Err, true, false};
 ghost use Rattle.edit_model.specs.Edits.{dropped_at, no_place};
 ghost use Rattle.msg_tree.specs.Meaning.{attached_of, list_of};
+ghost use Rattle.edit_words.specs.Meaning.{edit_of};
 ghost use Rattle.tree_edit.specs.Changes.{IsCauseOf, in_turn, on_attachments};
-ghost use Rattle.tree_edit.specs.Meaning.{edit_of};
 ghost use Rattle.tree_edit.specs.Rows.{listed};
 
 use crate::editing::{OnceEnd, empty, place_in};
-use crate::edits::{Edit, EditWhy};
+use crate::ends::EditWhy;
 use crate::rows::Rows;
 use carrier_io::NoMemory;
+use edit_words::Edit;
 use msg_tree::{Attachment, Attachments};
 use std::alloc::Global;
 

@@ -2,16 +2,18 @@
 ghost use Rattle.std.specs.Prelude.{◌≡◌, ◌≤◌, ℕ, List, [], ◌∷◌, ◌++◌, drop, length, map, take, ◌<◌, OnOk, IfOk, IfErr, Ok, Err};
 ghost use Rattle.edit_model.specs.Edits.{at_path, at_spot, body_with, changed_at, with_body, with_props};
 ghost use Rattle.msg_tree.specs.Meaning.{tree_of, list_of, body_of};
-ghost use Rattle.tree_edit.specs.Changes.{IsCauseOf, in_turn, on_part, on_props, part_of, path_of};
-ghost use Rattle.tree_edit.specs.Meaning.{edit_of, spot_of};
+ghost use Rattle.edit_words.specs.Meaning.{edit_of, spot_of};
+ghost use Rattle.edit_words.specs.Parts.{part_of, path_of};
+ghost use Rattle.tree_edit.specs.Changes.{IsCauseOf, in_turn, on_part, on_props};
 ghost use Rattle.tree_edit.specs.declared.editing.OnceEnd.TheVariants as ends;
-ghost use Rattle.tree_edit.specs.declared.edits.EditWhy.TheVariants as whys;
+ghost use Rattle.tree_edit.specs.declared.ends.EditWhy.TheVariants as whys;
 
 use crate::attachment_rows::edit_attachments;
-use crate::edits::{Edit, EditWhy, Part, Spot};
+use crate::ends::EditWhy;
 use crate::lists::edit_props;
 use crate::recipient_rows::edit_recipients;
 use carrier_io::{NoMemory, Numbers};
+use edit_words::{Edit, Part, Spot};
 use msg_tree::{Attachment, Attachments, Body, Message, Recipients};
 use prop_values::Props;
 use std::alloc::Global;

@@ -3,13 +3,14 @@ ghost use Rattle.std.specs.Prelude.{◌≡◌, ◌≤◌, length, map, take, OnO
 ghost use Rattle.edit_model.specs.Edits.{no_property, with_prop, without_prop};
 ghost use Rattle.prop_names.specs.Meaning.{key_of};
 ghost use Rattle.prop_values.specs.Kinds.{kind_number};
+ghost use Rattle.edit_words.specs.Meaning.{edit_of};
 ghost use Rattle.tree_edit.specs.Changes.{IsCauseOf, in_turn, on_props};
-ghost use Rattle.tree_edit.specs.Meaning.{edit_of};
 
 use crate::editing::OnceEnd;
-use crate::edits::{Edit, EditWhy};
+use crate::ends::EditWhy;
 use crate::prop_map::{PropMap, listed, mapped};
 use carrier_io::NoMemory;
+use edit_words::Edit;
 use prop_names::Key;
 use prop_values::copy::copy_prop;
 use prop_values::{InsertEnd, Kind, Prop, Props};

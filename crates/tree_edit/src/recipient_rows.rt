@@ -1,14 +1,15 @@
 //! Edits of a list of recipients.
 ghost use Rattle.std.specs.Prelude.{◌≡◌, ◌≤◌, [], length, map, take, OnOk, IfOk, IfErr, Ok, Err, true, false};
 ghost use Rattle.edit_model.specs.Edits.{dropped_at, no_place};
+ghost use Rattle.edit_words.specs.Meaning.{edit_of};
 ghost use Rattle.tree_edit.specs.Changes.{IsCauseOf, in_turn, on_recipients};
-ghost use Rattle.tree_edit.specs.Meaning.{edit_of};
 ghost use Rattle.tree_edit.specs.Rows.{listed};
 
 use crate::editing::{OnceEnd, place_in};
-use crate::edits::{Edit, EditWhy};
+use crate::ends::EditWhy;
 use crate::rows::Rows;
 use carrier_io::NoMemory;
+use edit_words::Edit;
 use msg_tree::Recipients;
 use prop_values::Props;
 use std::alloc::Global;

@@ -4,13 +4,13 @@ ghost use Rattle.std.specs.List.{AllByRecursion};
 ghost use Rattle.edit_model.specs.Edits.{Makes, edited_once};
 ghost use Rattle.edit_model.specs.Edits as plain;
 ghost use Rattle.msg_tree.specs.Meaning.{tree_of};
-ghost use Rattle.tree_edit.specs.Changes.{IsCauseOf, IsOf, part_of, path_of};
-ghost use Rattle.tree_edit.specs.Meaning.{edit_of};
+ghost use Rattle.edit_words.specs.Meaning.{edit_of};
+ghost use Rattle.edit_words.specs.Parts.{part_of, path_of};
+ghost use Rattle.tree_edit.specs.Changes.{IsCauseOf, IsOf};
 
-use crate::edit_list::Edits;
 use crate::editing::{OnceEnd, edit_on};
-use crate::edits::Edit;
 use carrier_io::Numbers;
+use edit_words::{Edit, Edits};
 use msg_tree::Message;
 use std::alloc::Global;
 

@@ -1,9 +1,18 @@
-use crate::{EditEnd, EditFault, EditWhy, edited, read_edits};
+use crate::{EditEnd, EditFault, EditWhy, edited};
+use edit_words::{Edits, read_edits};
 use msg_tree::{Attachment, Attachments, Body, Message, Recipients, Tree, same};
 use prop_names::Key;
 use prop_values::{InsertEnd, Kind, Prop, Props, Value};
 use std::alloc::Global;
 use std::test::*;
+
+/// The priority of a message, and that of the one message in it, if there is one.
+type Shape = (u32, Option<u32>);
+
+/// What is not so fails the test.
+fn holds(fact: bool, what: &'static str) -> Result<(), Fail> {
+    if fact { Ok(()) } else { Err(what.into()) }
+}
 
 /// A property list with the priority.
 fn numbers(alloc: Global, bits: u32) -> Result<Props<Vec<u8>>, InsertEnd<Vec<u8>>> {
@@ -18,78 +27,153 @@ fn numbers(alloc: Global, bits: u32) -> Result<Props<Vec<u8>>, InsertEnd<Vec<u8>
     Ok(props)
 }
 
-fn message(alloc: Global, bits: u32) -> Result<Message<Vec<u8>>, InsertEnd<Vec<u8>>> {
+/// A message with the priority alone.
+fn message(alloc: Global, bits: u32) -> Result<Message<Vec<u8>>, Fail> {
     Ok(Message {
-        props: numbers(alloc, bits)?,
+        props: numbers(alloc, bits).ok().ok_or("a list")?,
         recipients: Recipients::new(alloc),
         attachments: Attachments::new(alloc),
     })
 }
 
-/// A message with so many in one another, whose own priority is the first number and the others' the second.
-fn tree(rt: &HostRuntime, own: u32, below: Option<u32>) -> Result<Tree<Vec<u8>>, Fail> {
-    let alloc = rt.alloc();
-    let mut top = message(alloc, own).ok().ok_or("a message")?;
+/// An attachment with such a message.
+fn attachment(alloc: Global, bits: u32) -> Result<Attachment<Vec<u8>>, Fail> {
+    Ok(Attachment {
+        props: Props::new(alloc),
+        body: Body::Message(Box::new(alloc, message(alloc, bits)?)?),
+    })
+}
+
+/// The attachments of a shape.
+fn attachments(alloc: Global, below: Option<u32>) -> Result<Attachments<Vec<u8>>, Fail> {
+    let mut list = Attachments::new(alloc);
     if let Some(bits) = below {
-        let inner = message(alloc, bits).ok().ok_or("a message")?;
-        top.attachments.push(Attachment {
-            props: Props::new(alloc),
-            body: Body::Message(Box::new(alloc, inner)?),
-        })?;
+        list.push(attachment(alloc, bits)?)?;
     }
+    Ok(list)
+}
+
+/// The tree of a shape.
+fn tree(alloc: Global, shape: Shape) -> Result<Tree<Vec<u8>>, Fail> {
+    let mut top = message(alloc, shape.0)?;
+    top.attachments = attachments(alloc, shape.1)?;
     Ok(Tree::new(top).ok().ok_or("a tree")?)
 }
 
-fn words(rt: &HostRuntime, list: &[&str]) -> Result<Vec<String>, Fail> {
-    let mut words = Vec::new(rt.alloc());
-    for word in list {
-        words.push(String::from_str(rt.alloc(), word)?)?;
+/// Puts words behind others.
+fn push_words(rt: &HostRuntime, list: &mut Vec<String>, words: &[&str]) -> Result<(), Fail> {
+    for word in words {
+        list.push(String::from_str(rt.alloc(), word)?)?;
     }
-    Ok(words)
+    Ok(())
+}
+
+fn edits_of(alloc: Global, words: &[String]) -> Result<Edits, Fail> {
+    Ok(read_edits(alloc, words)?.ok_or("edits")?)
 }
 
 /// What the edits of words make of a tree; the error of words that are no edits is its own.
 fn edited_by(
     rt: &HostRuntime,
-    list: &[&str],
-    before: &Tree<Vec<u8>>,
+    words: &[String],
+    before: Shape,
 ) -> Result<Result<Tree<Vec<u8>>, EditEnd>, Fail> {
-    let words = words(rt, list)?;
-    let edits = read_edits(rt.alloc(), &words)?.ok_or("edits")?;
-    Ok(edited(rt.alloc(), before, &edits))
+    let alloc = rt.alloc();
+    let edits = edits_of(alloc, words)?;
+    Ok(edited(alloc, &tree(alloc, before)?, &edits))
 }
+
+/// A tree has to be the one of a shape.
+fn is_of(rt: &HostRuntime, got: &Tree<Vec<u8>>, shape: Shape) -> Result<(), Fail> {
+    holds(same(got, &tree(rt.alloc(), shape)?), "another tree")
+}
+
+/// Edits have to make one tree of another.
+fn make(rt: &HostRuntime, words: &[String], before: Shape, after: Shape) -> Result<(), Fail> {
+    match edited_by(rt, words, before)? {
+        Ok(got) => is_of(rt, &got, after),
+        Err(_) => Err("no tree".into()),
+    }
+}
+
+/// Edits have to end at the one of a number, for a reason.
+fn stop(
+    rt: &HostRuntime,
+    words: &[String],
+    before: Shape,
+    edit: u64,
+    why: EditWhy,
+) -> Result<(), Fail> {
+    match edited_by(rt, words, before)? {
+        Err(EditEnd::Fault(fault)) => holds(fault == EditFault { edit, why }, "another fault"),
+        _ => Err("no fault".into()),
+    }
+}
+
+fn words(rt: &HostRuntime, list: &[&str]) -> Result<Vec<String>, Fail> {
+    let mut words = Vec::new(rt.alloc());
+    push_words(rt, &mut words, list)?;
+    Ok(words)
+}
+
+/// The same of words as a row has them.
+fn makes(rt: &HostRuntime, row: &[&str], before: Shape, after: Shape) -> Result<(), Fail> {
+    make(rt, &words(rt, row)?, before, after)
+}
+
+fn stops(
+    rt: &HostRuntime,
+    row: &[&str],
+    before: Shape,
+    edit: u64,
+    why: EditWhy,
+) -> Result<(), Fail> {
+    stop(rt, &words(rt, row)?, before, edit, why)
+}
+
+/// A recipient that comes, gets a property and goes.
+const THERE_AND_BACK: [&str; 10] = [
+    "add-recipient",
+    ".",
+    "set",
+    "./r0",
+    "3001",
+    "String",
+    "r",
+    "drop-recipient",
+    ".",
+    "0",
+];
+
+/// An edit that is done, and one of a message that isn't there.
+const SECOND_IS_NOWHERE: [&str; 9] = [
+    "remove",
+    ".",
+    "0017",
+    "Integer32",
+    "set",
+    "./m0",
+    "0017",
+    "Integer32",
+    "1",
+];
 
 #[test]
 fn edits_that_are_done(rt: HostRuntime) -> Result<(), Fail> {
-    let got = edited_by(
-        &rt,
-        &["set", ".", "0017", "Integer32", "1"],
-        &tree(&rt, 2, None)?,
-    )?;
-    assert!(rt; same(&got.ok().ok_or("a tree")?, &tree(&rt, 1, None)?));
-    let got = edited_by(
-        &rt,
-        &["set", "./m0", "0017", "Integer32", "7"],
-        &tree(&rt, 2, Some(3))?,
-    )?;
-    assert!(rt; same(&got.ok().ok_or("a tree")?, &tree(&rt, 2, Some(7))?));
-    let there_and_back = [
-        "add-recipient",
-        ".",
-        "set",
-        "./r0",
-        "3001",
-        "String",
-        "r",
-        "drop-recipient",
-        ".",
-        "0",
-    ];
-    let got = edited_by(&rt, &there_and_back, &tree(&rt, 2, None)?)?;
-    assert!(rt; same(&got.ok().ok_or("a tree")?, &tree(&rt, 2, None)?));
-    let got = edited_by(&rt, &["drop-attachment", ".", "0"], &tree(&rt, 2, Some(3))?)?;
-    assert!(rt; same(&got.ok().ok_or("a tree")?, &tree(&rt, 2, None)?));
-    Ok(())
+    let set = ["set", ".", "0017", "Integer32", "1"];
+    makes(&rt, &set, (2, None), (1, None))?;
+    let set_below = ["set", "./m0", "0017", "Integer32", "7"];
+    makes(&rt, &set_below, (2, Some(3)), (2, Some(7)))?;
+    makes(&rt, &THERE_AND_BACK, (2, None), (2, None))?;
+    let dropped = ["drop-attachment", ".", "0"];
+    makes(&rt, &dropped, (2, Some(3)), (2, None))
+}
+
+#[test]
+fn edits_that_cannot_be_done(rt: HostRuntime) -> Result<(), Fail> {
+    let absent = ["remove", ".", "0037", "String"];
+    stops(&rt, &absent, (2, None), 0, EditWhy::NoProperty)?;
+    stops(&rt, &SECOND_IS_NOWHERE, (2, None), 1, EditWhy::NoPlace)
 }
 
 /// Puts the words of an edit of an id of the top message behind others.
@@ -100,145 +184,56 @@ fn push_edit(
     id: u32,
     behind: &[&str],
 ) -> Result<(), Fail> {
-    list.push(String::from_str(rt.alloc(), verb)?)?;
-    list.push(String::from_str(rt.alloc(), ".")?)?;
+    push_words(rt, list, &[verb, "."])?;
     list.push(format!(in rt.alloc(); "{id:04X}")?)?;
-    for word in behind {
-        list.push(String::from_str(rt.alloc(), word)?)?;
+    push_words(rt, list, behind)
+}
+
+/// Many edits of one place: the ids from 005F down are set, and 0017 before them.
+fn push_falling_sets(rt: &HostRuntime, list: &mut Vec<String>) -> Result<(), Fail> {
+    push_edit(rt, list, "set", 0x17, &["Integer32", "6"])?;
+    for id in (1..0x60).rev() {
+        push_edit(rt, list, "set", id, &["Integer32", "1"])?;
     }
     Ok(())
 }
 
-/// The words of many edits of one place: the ids from 005F down are set, and 0017 before them.
-fn falling_sets(rt: &HostRuntime) -> Result<Vec<String>, Fail> {
-    let mut list = Vec::new(rt.alloc());
-    push_edit(rt, &mut list, "set", 0x17, &["Integer32", "6"])?;
-    for id in (1..0x60).rev() {
-        push_edit(rt, &mut list, "set", id, &["Integer32", "1"])?;
+/// All of them but 0017 are removed.
+fn push_removes(rt: &HostRuntime, list: &mut Vec<String>) -> Result<(), Fail> {
+    for id in 1..0x60 {
+        if id != 0x17 {
+            push_edit(rt, list, "remove", id, &["Integer32"])?;
+        }
     }
-    Ok(list)
+    Ok(())
 }
 
 #[test]
 fn many_edits_of_a_place(rt: HostRuntime) -> Result<(), Fail> {
-    let mut list = falling_sets(&rt)?;
-    for id in 1..0x60 {
-        if id != 0x17 {
-            push_edit(&rt, &mut list, "remove", id, &["Integer32"])?;
-        }
-    }
-    let edits = read_edits(rt.alloc(), &list)?.ok_or("edits")?;
-    let got = edited(rt.alloc(), &tree(&rt, 2, None)?, &edits);
-    assert!(rt; same(&got.ok().ok_or("a tree")?, &tree(&rt, 1, None)?));
+    let mut list = Vec::new(rt.alloc());
+    push_falling_sets(&rt, &mut list)?;
+    push_removes(&rt, &mut list)?;
+    make(&rt, &list, (2, None), (1, None))?;
     push_edit(&rt, &mut list, "remove", 1, &["Integer32"])?;
-    let edits = read_edits(rt.alloc(), &list)?.ok_or("edits")?;
-    let got = edited(rt.alloc(), &tree(&rt, 2, None)?, &edits);
-    let fault = EditFault {
-        edit: 190,
-        why: EditWhy::NoProperty,
-    };
-    assert!(rt; got.err() == Some(EditEnd::Fault(fault)));
+    stop(&rt, &list, (2, None), 190, EditWhy::NoProperty)
+}
+
+/// Seventy recipients come and go.
+fn push_recipients(rt: &HostRuntime, list: &mut Vec<String>) -> Result<(), Fail> {
+    for _ in 0..70 {
+        push_words(rt, list, &["add-recipient", "."])?;
+    }
+    for _ in 0..70 {
+        push_words(rt, list, &["drop-recipient", ".", "0"])?;
+    }
     Ok(())
 }
 
 #[test]
 fn many_recipients_that_come_and_go(rt: HostRuntime) -> Result<(), Fail> {
     let mut list = Vec::new(rt.alloc());
-    for _ in 0..70 {
-        list.push("add-recipient")?;
-        list.push(".")?;
-    }
-    for _ in 0..70 {
-        list.push("drop-recipient")?;
-        list.push(".")?;
-        list.push("0")?;
-    }
-    let got = edited_by(&rt, &list, &tree(&rt, 2, None)?)?;
-    assert!(rt; same(&got.ok().ok_or("a tree")?, &tree(&rt, 2, None)?));
-    list.push("drop-recipient")?;
-    list.push(".")?;
-    list.push("0")?;
-    let got = edited_by(&rt, &list, &tree(&rt, 2, None)?)?;
-    let fault = EditFault {
-        edit: 140,
-        why: EditWhy::NoPlace,
-    };
-    assert!(rt; got.err() == Some(EditEnd::Fault(fault)));
-    Ok(())
-}
-
-#[test]
-fn edits_that_cannot_be_done(rt: HostRuntime) -> Result<(), Fail> {
-    let got = edited_by(
-        &rt,
-        &["remove", ".", "0037", "String"],
-        &tree(&rt, 2, None)?,
-    )?;
-    let fault = EditFault {
-        edit: 0,
-        why: EditWhy::NoProperty,
-    };
-    assert!(rt; got.err() == Some(EditEnd::Fault(fault)));
-    let second = [
-        "remove",
-        ".",
-        "0017",
-        "Integer32",
-        "set",
-        "./m0",
-        "0017",
-        "Integer32",
-        "1",
-    ];
-    let got = edited_by(&rt, &second, &tree(&rt, 2, None)?)?;
-    let fault = EditFault {
-        edit: 1,
-        why: EditWhy::NoPlace,
-    };
-    assert!(rt; got.err() == Some(EditEnd::Fault(fault)));
-    Ok(())
-}
-
-#[test]
-fn words_that_are_edits(rt: HostRuntime) -> Result<(), Fail> {
-    let named = "08200600000000c000000000000000046/0000820E";
-    let key = "0820060000000000c000000000000046/0000820E";
-    let values = [
-        ("Integer16", "65535", true),
-        ("Integer16", "65536", false),
-        ("Integer64", "18446744073709551615", true),
-        ("Currency", "18446744073709551616", false),
-        ("ErrorCode", "00", false),
-        ("Boolean", "1", true),
-        ("Boolean", "2", false),
-        ("Time", "+1", false),
-        ("String", "", true),
-        ("Binary", "0a1", false),
-        ("Binary", "0a1B", false),
-        ("Guid", "00112233445566778899aabbccddeeff", true),
-        ("Guid", "0011", false),
-        ("Floating32", "0", false),
-    ];
-    for (kind, value, good) in values {
-        let list = words(&rt, &["set", "./m10/a0", key, kind, value])?;
-        assert_eq!(rt; read_edits(rt.alloc(), &list)?.is_some(), good);
-    }
-    let places = [
-        (".", "0017", true),
-        (".", "8000", false),
-        (".", "001a", false),
-        (".", named, false),
-        ("./m01", "0017", false),
-        ("./m1234567890", "0017", false),
-        ("./r0/m0", "0017", false),
-        ("./m0/", "0017", false),
-        ("", "0017", false),
-    ];
-    for (place, key, good) in places {
-        let list = words(&rt, &["remove", place, key, "Time"])?;
-        assert_eq!(rt; read_edits(rt.alloc(), &list)?.is_some(), good);
-    }
-    let none = words(&rt, &[])?;
-    assert!(rt; read_edits(rt.alloc(), &none)?.is_none());
-    Ok(())
+    push_recipients(&rt, &mut list)?;
+    make(&rt, &list, (2, None), (2, None))?;
+    push_words(&rt, &mut list, &["drop-recipient", ".", "0"])?;
+    stop(&rt, &list, (2, None), 140, EditWhy::NoPlace)
 }

@@ -4,11 +4,11 @@ ghost use Rattle.edit_model.specs.Edits.{edited_tree};
 ghost use Rattle.msg_tree.specs.Whole.{plain_of};
 ghost use Rattle.tree_edit.specs.Meaning.{IsEndOf};
 
-use crate::edit_list::Edits;
 use crate::editing::OnceEnd;
-use crate::edits::{EditEnd, EditFault};
+use crate::ends::{EditEnd, EditFault};
 use crate::runs::edit_next;
 use carrier_io::Blob;
+use edit_words::Edits;
 use msg_tree::{Tree, copy_owned};
 use std::alloc::Global;
 

@@ -1,7 +1,7 @@
 use Rattle.std.proofs.Common.{ap, ◌+◌, map, rules}
 use Rattle.msg_tree.specs.Meaning.{attached_of}
+use Rattle.edit_words.specs.Meaning.{edit_of}
 use Rattle.tree_edit.specs.Changes.{on_attachments}
-use Rattle.tree_edit.specs.Meaning.{edit_of}
 use Rattle.tree_edit.specs.Rows.{listed}
 use Rattle.tree_edit.proofs.Composed.{turn_next}
 use Rattle.tree_edit.proofs.attachment_rows.edit_rows_on.Goals as goal

@@ -4,8 +4,9 @@ use Rattle.carrier_model.proofs.Trees.{drop_at}
 use Rattle.edit_model.specs.Edits.{at_path, changed_at, with_attachments, with_body}
 use Rattle.msg_tree.specs.Meaning.{tree_of, list_of, attached_of}
 use Rattle.msg_tree.specs.declared.messages.Message.{out-Message}
-use Rattle.tree_edit.specs.Changes.{on_part, part_of}
-use Rattle.tree_edit.specs.Meaning.{edit_of}
+use Rattle.edit_words.specs.Meaning.{edit_of}
+use Rattle.edit_words.specs.Parts.{part_of}
+use Rattle.tree_edit.specs.Changes.{on_part}
 use Rattle.tree_edit.proofs.Made.{attachments_done, attachments_fail, body_done, message_done}
 use Rattle.tree_edit.proofs.Steps.{changed_ok, put_twice, ok_above, err_above}
 use Rattle.tree_edit.proofs.editing.+below.Goals as goal

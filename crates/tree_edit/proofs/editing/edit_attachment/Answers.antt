@@ -2,8 +2,8 @@ use Rattle.std.proofs.Common.{◌∙◌, ap, sym, Ok, map, take}
 use Rattle.std.proofs.lemmas.Result.{err_from_is_err_and}
 use Rattle.edit_model.specs.Edits.{changed_at, with_props}
 use Rattle.msg_tree.specs.Meaning.{list_of, attached_of}
+use Rattle.edit_words.specs.Meaning.{edit_of}
 use Rattle.tree_edit.specs.Changes.{in_turn, on_props}
-use Rattle.tree_edit.specs.Meaning.{edit_of}
 use Rattle.tree_edit.proofs.Made.{props_done, props_fail}
 use Rattle.tree_edit.proofs.Steps.{changed_ok, changed_err, changed_past, cause_above, put_twice}
 use Rattle.tree_edit.proofs.editing.edit_attachment.Goals as goal

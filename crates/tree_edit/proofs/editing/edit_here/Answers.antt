@@ -2,8 +2,8 @@ use Rattle.std.proofs.Common.{sym, map, take}
 use Rattle.edit_model.specs.Edits.{with_attachments}
 use Rattle.msg_tree.specs.Meaning.{tree_of, list_of}
 use Rattle.msg_tree.specs.declared.messages.Message.{out-Message}
+use Rattle.edit_words.specs.Meaning.{edit_of}
 use Rattle.tree_edit.specs.Changes.{in_turn, on_attachments}
-use Rattle.tree_edit.specs.Meaning.{edit_of}
 use Rattle.tree_edit.proofs.Made.{attachments_done, attachments_fail}
 use Rattle.tree_edit.proofs.Steps.{ok_above, err_above}
 use Rattle.tree_edit.proofs.editing.edit_here.Goals as goal

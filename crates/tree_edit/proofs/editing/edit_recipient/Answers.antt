@@ -3,8 +3,8 @@ use Rattle.std.specs.Prelude.{slice_set}
 use Rattle.std.proofs.lemmas.List.{set-set}
 use Rattle.std.proofs.lemmas.Result.{err_from_is_err_and}
 use Rattle.edit_model.specs.Edits.{changed_at}
+use Rattle.edit_words.specs.Meaning.{edit_of}
 use Rattle.tree_edit.specs.Changes.{in_turn, on_props}
-use Rattle.tree_edit.specs.Meaning.{edit_of}
 use Rattle.tree_edit.proofs.Steps.{changed_ok, changed_err, changed_past, cause_above}
 use Rattle.tree_edit.proofs.editing.edit_recipient.Goals as goal
 

@@ -1,6 +1,6 @@
 use Rattle.std.proofs.Common.{ap, ◌+◌, rules}
+use Rattle.edit_words.specs.Meaning.{edit_of}
 use Rattle.tree_edit.specs.Changes.{on_props}
-use Rattle.tree_edit.specs.Meaning.{edit_of}
 use Rattle.tree_edit.proofs.Composed.{turn_next}
 use Rattle.tree_edit.proofs.lists.edit_map_on.Goals as goal
 

@@ -1,6 +1,6 @@
 use Rattle.std.proofs.Common.{◌≡◌, Ok, map, take}
+use Rattle.edit_words.specs.Meaning.{edit_of}
 use Rattle.tree_edit.specs.Changes.{in_turn, on_props}
-use Rattle.tree_edit.specs.Meaning.{edit_of}
 use Rattle.tree_edit.proofs.lists.edit_map_on.Given as goal
 
 abbrev pub invariant-loop-next : goal.invariant-loop-next

@@ -1,6 +1,6 @@
 use Rattle.std.proofs.Common.{ap, ◌+◌, rules}
+use Rattle.edit_words.specs.Meaning.{edit_of}
 use Rattle.tree_edit.specs.Changes.{on_recipients}
-use Rattle.tree_edit.specs.Meaning.{edit_of}
 use Rattle.tree_edit.specs.Rows.{listed}
 use Rattle.tree_edit.proofs.Composed.{turn_next}
 use Rattle.tree_edit.proofs.recipient_rows.edit_rows_on.Goals as goal

@@ -1,7 +1,8 @@
 use Rattle.std.proofs.Common.{◌+◌, ◌≤◌, sym, subst, arith}
 use Rattle.std.specs.List.{AllByRecursion}
-use Rattle.tree_edit.specs.Changes.{IsOf, part_of, path_of}
-use Rattle.tree_edit.specs.Meaning.{edit_of}
+use Rattle.edit_words.specs.Meaning.{edit_of}
+use Rattle.edit_words.specs.Parts.{part_of, path_of}
+use Rattle.tree_edit.specs.Changes.{IsOf}
 use Rattle.tree_edit.proofs.Composed.{all_behind}
 use Rattle.tree_edit.proofs.runs.behind.Goals as goal
 

@@ -4,8 +4,9 @@ use Rattle.std.proofs.lemmas.Result.{err_from_is_err_and}
 use Rattle.carrier_model.proofs.Trees.{drop_at}
 use Rattle.edit_model.proofs.WordsFit.{all_front}
 use Rattle.msg_tree.specs.Meaning.{tree_of}
-use Rattle.tree_edit.specs.Changes.{IsCauseOf, IsOf, part_of, path_of}
-use Rattle.tree_edit.specs.Meaning.{edit_of}
+use Rattle.edit_words.specs.Meaning.{edit_of}
+use Rattle.edit_words.specs.Parts.{part_of, path_of}
+use Rattle.tree_edit.specs.Changes.{IsCauseOf, IsOf}
 use Rattle.tree_edit.proofs.Composed.{run_makes, once_alone}
 use Rattle.tree_edit.proofs.runs.edit_next.Goals as goal
 

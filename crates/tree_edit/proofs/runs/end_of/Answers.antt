@@ -1,6 +1,7 @@
 use Rattle.std.proofs.Common.{rules}
-use Rattle.tree_edit.specs.Changes.{IsOf, part_of, path_of}
-use Rattle.tree_edit.specs.Meaning.{edit_of}
+use Rattle.edit_words.specs.Meaning.{edit_of}
+use Rattle.edit_words.specs.Parts.{part_of, path_of}
+use Rattle.tree_edit.specs.Changes.{IsOf}
 use Rattle.tree_edit.proofs.Composed.{all_more}
 use Rattle.tree_edit.proofs.runs.end_of.Goals as goal
 

@@ -1,0 +1,6 @@
+mod Cuts
+mod Digits
+mod EditSteps
+mod Numerals
+mod StepWords
+mod WideTexts

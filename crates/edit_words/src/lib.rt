@@ -1,0 +1,18 @@
+//! The edits that words are.
+#![tactic(auto)]
+
+mod decimals;
+mod edit_list;
+mod edits;
+mod hex_words;
+mod keys;
+mod places;
+mod scripts;
+mod values;
+
+pub use edit_list::Edits;
+pub use edits::{Edit, Part, Place, Spot};
+pub use scripts::read_edits;
+
+#[cfg(test)]
+mod tests;

@@ -1,0 +1,175 @@
+//! The words that are edits.
+ghost use Rattle.std.specs.Prelude.{◌≡◌, ◌≤◌, IfOk, length};
+ghost use Rattle.std.specs.List.{AllByRecursion};
+ghost use Rattle.std.specs.Option.{option_map};
+ghost use Rattle.edit_words.specs.Reading.{IsShort};
+ghost use Rattle.edit_model.specs.EditWords as plain;
+ghost use Rattle.edit_model.specs.EditWords.{MOST_WORD_BYTES, set_of, remove_of, drop_of};
+ghost use Rattle.edit_words.specs.Meaning.{edit_of, texts};
+
+use crate::decimals::read_place_number;
+use crate::edit_list::Edits;
+use crate::edits::Edit;
+use crate::keys::{read_key, read_kind};
+use crate::places::{read_message, read_place};
+use crate::values::read_value;
+use carrier_io::NoMemory;
+use prop_values::Prop;
+use std::alloc::Global;
+
+/// The edit that sets a property.
+fn read_set(
+    alloc: Global,
+    place: &str,
+    key: &str,
+    kind: &str,
+    value: &str,
+) -> Result<Option<Edit>, NoMemory>
+    requires { length value.now ≤ MOST_WORD_BYTES }
+    ensures { IfOk result (λ r. option_map edit_of r ≡ set_of place.now key.now kind.now value.now) }
+{
+    let Some(place) = read_place(alloc, place)? else {
+        return Ok(None);
+    };
+    let Some(key) = read_key(key.as_bytes()) else {
+        return Ok(None);
+    };
+    let Some(kind) = read_kind(kind) else {
+        return Ok(None);
+    };
+    let Some(value) = read_value(alloc, kind, value)? else {
+        return Ok(None);
+    };
+    let prop = Prop { key, value };
+    Ok(Some(Edit::SetProp { place, prop }))
+}
+
+/// The edit that removes a property.
+fn read_remove(alloc: Global, place: &str, key: &str, kind: &str) -> Result<Option<Edit>, NoMemory>
+    ensures { IfOk result (λ r. option_map edit_of r ≡ remove_of place.now key.now kind.now) }
+{
+    let Some(place) = read_place(alloc, place)? else {
+        return Ok(None);
+    };
+    let Some(key) = read_key(key.as_bytes()) else {
+        return Ok(None);
+    };
+    let Some(kind) = read_kind(kind) else {
+        return Ok(None);
+    };
+    Ok(Some(Edit::RemoveProp { place, key, kind }))
+}
+
+/// The edit that drops a recipient or an attachment.
+fn read_drop(
+    alloc: Global,
+    verb: &str,
+    message: &str,
+    number: &str,
+) -> Result<Option<Edit>, NoMemory>
+    ensures { IfOk result (λ r. option_map edit_of r ≡ drop_of verb.now message.now number.now) }
+{
+    let Some(path) = read_message(alloc, message)? else {
+        return Ok(None);
+    };
+    let Some(number) = read_place_number(number) else {
+        return Ok(None);
+    };
+    if verb == "drop-recipient" {
+        return Ok(Some(Edit::DropRecipient { path, number }));
+    }
+    if verb == "drop-attachment" {
+        return Ok(Some(Edit::DropAttachment { path, number }));
+    }
+    Ok(None)
+}
+
+/// The edit of its first word and the others.
+fn read_edit(alloc: Global, verb: &str, words: &[String]) -> Result<Option<Edit>, NoMemory>
+    requires { AllByRecursion IsShort (texts words.now) }
+    ensures { IfOk result (λ r. option_map edit_of r ≡ plain.edit_of verb.now (texts words.now)) }
+{
+    match words {
+        [message] => {
+            if verb != "add-recipient" {
+                return Ok(None);
+            }
+            match read_message(alloc, message.as_str())? {
+                Some(path) => Ok(Some(Edit::AddRecipient { path })),
+                None => Ok(None),
+            }
+        }
+        [message, number] => read_drop(alloc, verb, message.as_str(), number.as_str()),
+        [place, key, kind] => {
+            if verb == "remove" {
+                return read_remove(alloc, place.as_str(), key.as_str(), kind.as_str());
+            }
+            Ok(None)
+        }
+        [place, key, kind, value] => {
+            if verb == "set" {
+                return read_set(
+                    alloc,
+                    place.as_str(),
+                    key.as_str(),
+                    kind.as_str(),
+                    value.as_str(),
+                );
+            }
+            Ok(None)
+        }
+        _ => Ok(None),
+    }
+}
+
+/// How many words stand behind the first word of an edit.
+fn words_behind(verb: &str) -> usize
+    ensures value { result ≡ plain.words_behind verb.now }
+    ensures bound { result ≤ 4 }
+{
+    if verb == "set" {
+        return 4;
+    }
+    if verb == "remove" {
+        return 3;
+    }
+    if verb == "add-recipient" {
+        return 1;
+    }
+    2
+}
+
+/// Whether no word has more than 1,048,576 bytes.
+fn are_short(words: &[String]) -> bool
+    ensures { result ≡ plain.are_short (texts words.now) }
+{
+    for word in words {
+        if word.len() > 1_048_576 {
+            return false;
+        }
+    }
+    true
+}
+
+/// The edits that the words are, one or more. None where they are no edits.
+pub fn read_edits(alloc: Global, words: &[String]) -> Result<Option<Edits>, NoMemory>
+    ensures { IfOk result (λ r. r ≡ plain.edits_of (texts words.now)) }
+{
+    if words.is_empty() || !are_short(words) {
+        return Ok(None);
+    }
+    let mut edits = Edits::new(alloc);
+    let mut at = 0;
+    while at < words.len() {
+        let verb = words[at].as_str();
+        let others = &words[at + 1..];
+        let count = words_behind(verb);
+        let own = &others[..count.min(others.len())];
+        match read_edit(alloc, verb, own)? {
+            Some(edit) => edits.push(edit)?,
+            None => return Ok(None),
+        }
+        at = at + 1 + own.len();
+    }
+    Ok(Some(edits))
+}

@@ -1,0 +1,87 @@
+//! Values.
+ghost use Rattle.std.specs.Prelude.{◌≡◌, ◌++◌, ◌+◌, IfOk, OnOk};
+ghost use Rattle.std.specs.Char.Escape.{encode_utf16};
+ghost use Rattle.std.specs.Option.{option_map};
+ghost use Rattle.carrier_model.specs.Bytes.{unit_bytes};
+ghost use Rattle.edit_model.specs.EditWords.{number_value, numbers_below, value_of as value_meant, wide_text};
+ghost use Rattle.prop_values.specs.Kinds.{kind_number};
+ghost use Rattle.prop_values.specs.Meaning.{value_of};
+ghost use Rattle.edit_words.specs.Reading.{IsEditKind};
+
+use crate::decimals::read_decimal;
+use crate::hex_words::{read_bytes, read_guid};
+use carrier_io::NoMemory;
+use prop_values::{Kind, Value};
+use std::alloc::Global;
+
+/// Puts the units of a character behind a text, the low byte of each first.
+fn push_character(text: &mut Vec<u8>, character: char) -> Result<(), NoMemory>
+    ensures { OnOk result (text.new.items ≡ text.old.items ++ unit_bytes (encode_utf16 character)) }
+{
+    let code = character as u32;
+    if code < 0x1_0000 {
+        text.extend_from_slice(&(code as u16).to_le_bytes())?;
+        return Ok(());
+    }
+    let over = code - 0x1_0000;
+    text.extend_from_slice(&((0xd800 + over / 0x400) as u16).to_le_bytes())?;
+    text.extend_from_slice(&((0xdc00 + over % 0x400) as u16).to_le_bytes())?;
+    Ok(())
+}
+
+/// The text in UTF-16, the low byte of each unit first.
+fn read_text(alloc: Global, word: &str) -> Result<Vec<u8>, NoMemory>
+    ensures { IfOk result (λ text. text.items ≡ wide_text word.now) }
+{
+    let mut text = Vec::new(alloc);
+    for character in word.chars() {
+        push_character(&mut text, character)?;
+    }
+    Ok(text)
+}
+
+/// A number of at most so much.
+fn read_number(kind: Kind, most: u64, word: &str) -> Option<Value<Vec<u8>>>
+    requires { most + 1 ≡ numbers_below (kind_number kind) }
+    ensures { option_map (value_of (λ v. v.items)) result ≡ number_value (kind_number kind) word.now }
+{
+    match read_decimal(word) {
+        Some(bits) => {
+            if bits <= most {
+                Some(Value::Number { kind, bits })
+            } else {
+                None
+            }
+        }
+        None => None,
+    }
+}
+
+/// A value of a kind that an edit may have. [MS-OXCDATA 2.11.1]
+pub fn read_value(alloc: Global, kind: Kind, word: &str) -> Result<Option<Value<Vec<u8>>>, NoMemory>
+    requires { IsEditKind kind }
+    ensures { IfOk result (λ r. option_map (value_of (λ v. v.items)) r ≡ value_meant (kind_number kind) word.now) }
+{
+    match kind {
+        Kind::String => {
+            let bytes = read_text(alloc, word)?;
+            Ok(Some(Value::Bytes { kind, bytes }))
+        }
+        Kind::Binary => match read_bytes(alloc, word.as_bytes())? {
+            Some(bytes) => Ok(Some(Value::Bytes { kind, bytes })),
+            None => Ok(None),
+        },
+        Kind::Guid => match read_guid(word.as_bytes()) {
+            Some(set) => Ok(Some(Value::Guid(set))),
+            None => Ok(None),
+        },
+        Kind::Integer16 => Ok(read_number(kind, 0xffff, word)),
+        Kind::Integer32 => Ok(read_number(kind, 0xffff_ffff, word)),
+        Kind::ErrorCode => Ok(read_number(kind, 0xffff_ffff, word)),
+        Kind::Boolean => Ok(read_number(kind, 1, word)),
+        Kind::Integer64 => Ok(read_number(kind, u64::MAX, word)),
+        Kind::Currency => Ok(read_number(kind, u64::MAX, word)),
+        Kind::Time => Ok(read_number(kind, u64::MAX, word)),
+        _ => unreachable!(),
+    }
+}

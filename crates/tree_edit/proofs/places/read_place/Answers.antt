@@ -1,7 +1,0 @@
-use Rattle.std.proofs.Common.{◌∙◌, sym}
-use Rattle.tree_edit.proofs.StepWords.{stuck_word}
-use Rattle.tree_edit.proofs.places.read_place.Goals as goal
-
-pub returns-then-is_some : goal.returns-then-is_some
-returns-then-is_some c =
-    sym (stuck_word c.loop-left.path c.in-Some.steps.now c.cut-in-Some.result.0.now c.cut-in-Some.result.1 c.cut-in-Some.ensures.split c.if-is_some.ensures c.in-None.ensures) ∙ rw c.in-Some.is at c.loop-left.invariant

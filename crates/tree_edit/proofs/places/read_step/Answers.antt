@@ -1,7 +1,0 @@
-use Rattle.std.proofs.Common.{None}
-use Rattle.std.proofs.lemmas.Str.Pattern.{strip_prefix_char}
-use Rattle.tree_edit.proofs.StepWords.{no_step}
-use Rattle.tree_edit.proofs.places.read_step.Goals as goal
-
-pub returns-in-None : goal.returns-in-None
-returns-in-None c = no_step c.args.letter c.args.step.now (strip_prefix_char c.args.letter c.args.step.now None c.in-None.ensures.cases c.requires)
