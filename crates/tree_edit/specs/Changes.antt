@@ -2,7 +2,7 @@
 use Rattle.std.specs.Prelude.{◌≡◌, ℕ, List, [], ◌∷◌, ◌++◌, Result, Ok, Err}
 use Rattle.carrier_model.specs.Tree.{Message, Attached}
 use Rattle.carrier_model.specs.Values.{Prop}
-use Rattle.edit_model.specs.Edits.{Edit, set_prop, remove_prop, add_recipient, drop_recipient, drop_attachment, Spot, Why, with_prop, without_prop, with_recipients, with_attachments, dropped_at, at_spot, ◌>>=◌}
+use Rattle.edit_model.specs.Edits.{Edit, set_prop, remove_prop, add_recipient, drop_recipient, drop_attachment, Why, with_prop, without_prop, with_recipients, with_attachments, dropped_at, at_spot, ◌>>=◌}
 use Rattle.edit_words.specs.Parts.{Part, properties, recipients, attachments, path_of, part_of}
 use Rattle.tree_edit.specs.declared.editing.OnceEnd.{OnceEnd}
 use Rattle.tree_edit.specs.declared.editing.OnceEnd.TheVariants.{Cannot, NoMemory}
