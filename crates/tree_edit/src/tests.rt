@@ -27,20 +27,25 @@ fn numbers(alloc: Global, bits: u32) -> Result<Props<Vec<u8>>, InsertEnd<Vec<u8>
     Ok(props)
 }
 
-/// A message with the priority alone.
-fn message(alloc: Global, bits: u32) -> Result<Message<Vec<u8>>, Fail> {
+/// A message with the priority and these attachments.
+fn message(
+    alloc: Global,
+    bits: u32,
+    attachments: Attachments<Vec<u8>>,
+) -> Result<Message<Vec<u8>>, Fail> {
     Ok(Message {
         props: numbers(alloc, bits).ok().ok_or("a list")?,
         recipients: Recipients::new(alloc),
-        attachments: Attachments::new(alloc),
+        attachments,
     })
 }
 
-/// An attachment with such a message.
+/// An attachment with a message that has the priority alone.
 fn attachment(alloc: Global, bits: u32) -> Result<Attachment<Vec<u8>>, Fail> {
+    let inner = message(alloc, bits, Attachments::new(alloc))?;
     Ok(Attachment {
         props: Props::new(alloc),
-        body: Body::Message(Box::new(alloc, message(alloc, bits)?)?),
+        body: Body::Message(Box::new(alloc, inner)?),
     })
 }
 
@@ -55,8 +60,7 @@ fn attachments(alloc: Global, below: Option<u32>) -> Result<Attachments<Vec<u8>>
 
 /// The tree of a shape.
 fn tree(alloc: Global, shape: Shape) -> Result<Tree<Vec<u8>>, Fail> {
-    let mut top = message(alloc, shape.0)?;
-    top.attachments = attachments(alloc, shape.1)?;
+    let top = message(alloc, shape.0, attachments(alloc, shape.1)?)?;
     Ok(Tree::new(top).ok().ok_or("a tree")?)
 }
 
@@ -104,10 +108,9 @@ fn stop(
     edit: u64,
     why: EditWhy,
 ) -> Result<(), Fail> {
-    match edited_by(rt, words, before)? {
-        Err(EditEnd::Fault(fault)) => holds(fault == EditFault { edit, why }, "another fault"),
-        _ => Err("no fault".into()),
-    }
+    let end = edited_by(rt, words, before)?.err();
+    let wanted = EditEnd::Fault(EditFault { edit, why });
+    holds(end == Some(wanted), "another end")
 }
 
 fn words(rt: &HostRuntime, list: &[&str]) -> Result<Vec<String>, Fail> {
@@ -160,13 +163,20 @@ const SECOND_IS_NOWHERE: [&str; 9] = [
 
 #[test]
 fn edits_that_are_done(rt: HostRuntime) -> Result<(), Fail> {
-    let set = ["set", ".", "0017", "Integer32", "1"];
-    makes(&rt, &set, (2, None), (1, None))?;
-    let set_below = ["set", "./m0", "0017", "Integer32", "7"];
-    makes(&rt, &set_below, (2, Some(3)), (2, Some(7)))?;
-    makes(&rt, &THERE_AND_BACK, (2, None), (2, None))?;
-    let dropped = ["drop-attachment", ".", "0"];
-    makes(&rt, &dropped, (2, Some(3)), (2, None))
+    let table = [
+        (&["set", ".", "0017", "Integer32", "1"][..], None, (1, None)),
+        (
+            &["set", "./m0", "0017", "Integer32", "7"][..],
+            Some(3),
+            (2, Some(7)),
+        ),
+        (&THERE_AND_BACK[..], None, (2, None)),
+        (&["drop-attachment", ".", "0"][..], Some(3), (2, None)),
+    ];
+    for (row, below, after) in table {
+        makes(&rt, row, (2, below), after)?;
+    }
+    Ok(())
 }
 
 #[test]
@@ -184,8 +194,8 @@ fn push_edit(
     id: u32,
     behind: &[&str],
 ) -> Result<(), Fail> {
-    push_words(rt, list, &[verb, "."])?;
-    list.push(format!(in rt.alloc(); "{id:04X}")?)?;
+    let id = format!(in rt.alloc(); "{id:04X}")?;
+    push_words(rt, list, &[verb, ".", id.as_str()])?;
     push_words(rt, list, behind)
 }
 
@@ -208,14 +218,19 @@ fn push_removes(rt: &HostRuntime, list: &mut Vec<String>) -> Result<(), Fail> {
     Ok(())
 }
 
+/// The ids come and go; then one is removed that isn't there any more.
+fn ids_come_and_go(rt: &HostRuntime, list: &mut Vec<String>) -> Result<(), Fail> {
+    push_falling_sets(rt, list)?;
+    push_removes(rt, list)?;
+    make(rt, list, (2, None), (1, None))?;
+    push_edit(rt, list, "remove", 1, &["Integer32"])?;
+    stop(rt, list, (2, None), 190, EditWhy::NoProperty)
+}
+
 #[test]
 fn many_edits_of_a_place(rt: HostRuntime) -> Result<(), Fail> {
     let mut list = Vec::new(rt.alloc());
-    push_falling_sets(&rt, &mut list)?;
-    push_removes(&rt, &mut list)?;
-    make(&rt, &list, (2, None), (1, None))?;
-    push_edit(&rt, &mut list, "remove", 1, &["Integer32"])?;
-    stop(&rt, &list, (2, None), 190, EditWhy::NoProperty)
+    ids_come_and_go(&rt, &mut list)
 }
 
 /// Seventy recipients come and go.
@@ -229,11 +244,16 @@ fn push_recipients(rt: &HostRuntime, list: &mut Vec<String>) -> Result<(), Fail>
     Ok(())
 }
 
+/// Recipients come and go; then one goes that isn't there any more.
+fn recipients_come_and_go(rt: &HostRuntime, list: &mut Vec<String>) -> Result<(), Fail> {
+    push_recipients(rt, list)?;
+    make(rt, list, (2, None), (2, None))?;
+    push_words(rt, list, &["drop-recipient", ".", "0"])?;
+    stop(rt, list, (2, None), 140, EditWhy::NoPlace)
+}
+
 #[test]
 fn many_recipients_that_come_and_go(rt: HostRuntime) -> Result<(), Fail> {
     let mut list = Vec::new(rt.alloc());
-    push_recipients(&rt, &mut list)?;
-    make(&rt, &list, (2, None), (2, None))?;
-    push_words(&rt, &mut list, &["drop-recipient", ".", "0"])?;
-    stop(&rt, &list, (2, None), 140, EditWhy::NoPlace)
+    recipients_come_and_go(&rt, &mut list)
 }
