@@ -21,6 +21,3 @@ mod wanted;
 pub use files::Files;
 pub use lookups::{Child, StorageId};
 pub use opening::open_files;
-
-#[cfg(test)]
-mod tests;

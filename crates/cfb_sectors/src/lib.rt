@@ -24,6 +24,3 @@ pub use marks::SectorMarks;
 pub use offset::file_offset;
 pub use sectors::Sectors;
 pub use view::StreamView;
-
-#[cfg(test)]
-mod tests;

@@ -24,6 +24,3 @@ pub use cfb_list::{Content, FileList};
 pub use laws::sorted_lists_are_laid_out;
 pub use plan::Plan;
 pub use version::Version;
-
-#[cfg(test)]
-mod tests;

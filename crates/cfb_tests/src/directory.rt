@@ -1,0 +1,252 @@
+//! What the storages and streams of a file are, and what a file is refused for.
+use crate::files::{END, FOUR, FREE, Layout, Row, THREE, file_of, put, put_rows, put_word};
+use carrier_io::{Blob, Fault, Reason, Stop, Walk};
+use cfb_directory::{Files, open_files};
+use std::alloc::{AllocError, Global};
+use std::test::*;
+
+const PROPERTIES: &str = "__properties_version1.0";
+
+/// The files of a compound file, opened by a walk.
+fn opened<'f>(alloc: Global, bytes: &'f [u8], walk: &mut Walk) -> Result<Files<'f>, Fail> {
+    if bytes.len() > 2_581_504 {
+        return Err("too long")?;
+    }
+    Ok(open_files(alloc, bytes, walk)?)
+}
+
+/// The fault of the first so many bytes of a layout's file, after changes.
+fn refusal(
+    alloc: Global,
+    layout: &Layout,
+    changes: &[Row<'_>],
+    len: usize,
+) -> Result<Option<Fault>, Fail> {
+    let file = file_of(alloc, layout, changes)?;
+    let bytes = file.get(..len).ok_or("too short")?;
+    if bytes.len() > 20_480 {
+        return Err("too long")?;
+    }
+    match open_files(alloc, bytes, &mut Walk::new()) {
+        Ok(_) => Ok(None),
+        Err(Stop::Fault(fault)) => Ok(Some(fault)),
+        Err(Stop::NoMemory) => Err("memory")?,
+    }
+}
+
+#[test]
+fn changes(rt: HostRuntime) -> Result<(), Fail> {
+    let rows = [
+        (1220, 1, Reason::EntryShared, 1220),
+        (1224, 8, Reason::EntryOutOfRange, 1224),
+        (1728, 0x0105_0030, Reason::BadEntryType, 1730),
+        (1564, 0x0033_0030, Reason::DoubleName, 1536),
+        (1728, 0x0102_0003, Reason::BadName, 1728),
+        (24, 0x0005_003E, Reason::BadVersion, 26),
+        (24, 0x0004_003E, Reason::BadHeader, 30),
+        (28, 0x000C_FFFE, Reason::BadHeader, 30),
+        (44, 0, Reason::BadFatCount, 44),
+        (44, 6, Reason::BadFatCount, 44),
+        (76, 5, Reason::SectorOutOfRange, 76),
+        (48, 0, Reason::Shared, 48),
+        (48, END, Reason::ShortChain, 48),
+        (60, 1, Reason::Shared, 60),
+        (1140, 3, Reason::Shared, 1140),
+        (524, 3, Reason::Cycle, 524),
+        (528, 5, Reason::SectorOutOfRange, 528),
+        (1780, 1, Reason::SectorOutOfRange, 1780),
+        (2048, 0, Reason::Cycle, 2048),
+        (1784, 65, Reason::ShortChain, 2048),
+    ];
+    for (at, value, reason, offset) in rows {
+        let fault = refusal(rt.alloc(), &THREE, &[(at, &[value])], 3072)?;
+        assert_eq!(rt; fault, Some(Fault { reason, offset }), "at {at}");
+    }
+    Ok(())
+}
+
+#[test]
+fn pairs_and_cuts(rt: HostRuntime) -> Result<(), Fail> {
+    let rows: [(&[Row<'_>], usize, Reason, u64); 4] = [
+        (&[(1396, &[0, 1])], 3072, Reason::Shared, 1780),
+        (
+            &[(1144, &[48]), (1784, &[64])],
+            3072,
+            Reason::FileTruncated,
+            1784,
+        ),
+        (&[], 511, Reason::FileTruncated, 511),
+        (&[], 2623, Reason::FileTruncated, 1144),
+    ];
+    for (changes, len, reason, offset) in rows {
+        let fault = refusal(rt.alloc(), &THREE, changes, len)?;
+        assert_eq!(rt; fault, Some(Fault { reason, offset }), "at {offset}");
+    }
+    assert_eq!(rt; refusal(rt.alloc(), &THREE, &[], 2624)?, None);
+    Ok(())
+}
+
+#[test]
+fn versions(rt: HostRuntime) -> Result<(), Fail> {
+    let rows = [
+        (4100, 1, 20_480, Reason::Cycle, 4100),
+        (8956, 1, 20_480, Reason::Shared, 8948),
+        (28, 0x0009_FFFE, 20_480, Reason::BadHeader, 30),
+        (24, 0x0005_003E, 20_480, Reason::BadVersion, 26),
+        (32, 6, 4096, Reason::BadFatCount, 44),
+        (32, 6, 4000, Reason::BadFatCount, 44),
+        (32, 6, 511, Reason::FileTruncated, 511),
+    ];
+    for (at, value, len, reason, offset) in rows {
+        let fault = refusal(rt.alloc(), &FOUR, &[(at, &[value])], len)?;
+        assert_eq!(rt; fault, Some(Fault { reason, offset }), "at {at}");
+    }
+    assert_eq!(rt; refusal(rt.alloc(), &FOUR, &[], 20_480)?, None);
+    assert_eq!(rt; refusal(rt.alloc(), &THREE, &[(1788, &[1])], 3072)?, None);
+    Ok(())
+}
+
+/// The class of the root and of the storage of the names.
+fn classes_of(files: &Files<'_>) -> Option<([u8; 16], [u8; 16])> {
+    let names = files.storage(files.root(), "__nameid_version1.0")?;
+    Some((files.class(files.root()), files.class(names)))
+}
+
+/// The length of the stream that is the root's child of this number.
+fn child_len(files: &Files<'_>, number: usize) -> Option<usize> {
+    Some(files.child_stream(files.root(), number)?.len())
+}
+
+#[test]
+fn classes(rt: HostRuntime) -> Result<(), Fail> {
+    let words: [Row<'_>; 2] = [(8272, &[0x0002_0D0B, 0, 0, 0]), (8412, &[0x4600_0000])];
+    let file = file_of(rt.alloc(), &FOUR, &words)?;
+    let files = opened(rt.alloc(), &file, &mut Walk::new())?;
+    let root = [0x0B, 0x0D, 2, 0, 0, 0, 0, 0, 0, 0, 0, 0, 0, 0, 0, 0];
+    let names = [0, 0, 0, 0, 0, 0, 0, 0, 0, 0, 0, 0, 0, 0, 0, 0x46];
+    assert_eq!(rt; classes_of(&files), Some((root, names)));
+    assert_eq!(rt; child_len(&files, 0), None);
+    assert_eq!(rt; child_len(&files, 1), Some(32));
+    assert_eq!(rt; child_len(&files, 2), None);
+    Ok(())
+}
+
+/// The file offsets of the storage of the names, and of the size of the property stream.
+fn offsets(files: &Files<'_>) -> Option<(u64, u64)> {
+    let names = files.storage(files.root(), "__NameID_version1.0")?;
+    let size = files.size_offset(files.root(), PROPERTIES)?;
+    Some((files.storage_offset(names), size))
+}
+
+/// How long the name of the root's child of this number is, and whether that is a storage.
+fn child_of(files: &Files<'_>, number: usize) -> Option<(usize, bool)> {
+    let child = files.child(files.root(), number)?;
+    Some((child.units.len(), child.storage.is_some()))
+}
+
+#[test]
+fn lookups(rt: HostRuntime) -> Result<(), Fail> {
+    let file = file_of(rt.alloc(), &THREE, &[])?;
+    let mut walk = Walk::new();
+    let files = opened(rt.alloc(), &file, &mut walk)?;
+    assert_eq!(rt; walk.count(), 5);
+    assert_eq!(rt; offsets(&files), Some((1152, 1784)));
+    assert_eq!(rt; child_of(&files, 0), Some((19, true)));
+    assert_eq!(rt; child_of(&files, 1), Some((23, false)));
+    assert_eq!(rt; child_of(&files, 2), None);
+    assert!(rt; files.stream(files.root(), "__substg1.0_00020102").is_none());
+    Ok(())
+}
+
+/// The first piece of the property stream, which outlives the files.
+fn first_piece<'f>(alloc: Global, bytes: &'f [u8]) -> Result<&'f [u8], Fail> {
+    let files = opened(alloc, bytes, &mut Walk::new())?;
+    let view = files.stream(files.root(), PROPERTIES).ok_or("no stream")?;
+    if view.pieces() == 0 {
+        return Err("no piece")?;
+    }
+    Ok(view.slice(0))
+}
+
+#[test]
+fn views(rt: HostRuntime) -> Result<(), Fail> {
+    let words: [Row<'_>; 2] = [(1784, &[48]), (2592, &[0x0017_0003, 6, 2, 0])];
+    let file = file_of(rt.alloc(), &THREE, &words)?;
+    let piece = first_piece(rt.alloc(), &file)?;
+    assert_eq!(rt; piece.len(), 48);
+    assert_eq!(rt;
+        piece.get(32..),
+        Some(b"\x03\0\x17\0\x06\0\0\0\x02\0\0\0\0\0\0\0".as_slice())
+    );
+    Ok(())
+}
+
+/// How many bytes the property stream has, and the view of its first 64.
+fn lengths(alloc: Global, bytes: &[u8]) -> Result<(usize, usize), Fail> {
+    let files = opened(alloc, bytes, &mut Walk::new())?;
+    let view = files.stream(files.root(), PROPERTIES).ok_or("no stream")?;
+    if view.len() < 64 {
+        return Err("short")?;
+    }
+    Ok((view.len(), view.prefix(64)?.len()))
+}
+
+#[test]
+fn fronts(rt: HostRuntime) -> Result<(), Fail> {
+    let words: [Row<'_>; 3] = [(1144, &[128]), (1784, &[65]), (2048, &[1, END])];
+    let file = file_of(rt.alloc(), &THREE, &words)?;
+    assert_eq!(rt; lengths(rt.alloc(), &file)?, (65, 64));
+    Ok(())
+}
+
+/// The header of a file whose table has 40 sectors, with the directory behind it.
+const LONG_HEADER: [Row<'static>; 3] = [
+    (0, &[0xE011_CFD0, 0xE11A_B1A1]),
+    (24, &[0x0003_003E, 0x0009_FFFE, 6, 0, 0, 40, 40, 0, 4096]),
+    (512, &[0xFFFF_FFFD; 40]),
+];
+
+/// The root's kind, its child and the last entry's left link, in a directory of 20,001 entries.
+const LONG_ENDS: [Row<'static>; 4] = [
+    (512 + 4 * 5040, &[END]),
+    (20_992 + 64, &[0x0105_0016]),
+    (20_992 + 76, &[1]),
+    (20_992 + 128 * 20_000 + 68, &[FREE]),
+];
+
+/// Writes the numbers from the first up to the last.
+fn put_numbers(part: &mut [u8], first: u32, last: u32) {
+    for (slot, number) in part.chunks_mut(4).zip(first..=last) {
+        put_word(slot, number);
+    }
+}
+
+/// Writes empty streams, each of which has the next one as its left link.
+fn put_streams(directory: &mut [u8]) {
+    for (entry, k) in directory.chunks_mut(128).zip(0..20_001u32) {
+        put(entry, 0, &[k.saturating_add(0x1000)]);
+        put(entry, 64, &[0x0102_0004, k.saturating_add(1), FREE, FREE]);
+    }
+}
+
+/// A file whose root has so many empty streams in one row of left links.
+fn long_row(alloc: Global) -> Result<Vec<u8>, AllocError> {
+    let mut file = vec![in alloc; 0; 2_581_504]?;
+    put_rows(&mut file, &LONG_HEADER);
+    if file.len() > 20_992 {
+        put_numbers(&mut file[76..], 0, 39);
+        put_numbers(&mut file[512 + 160..], 41, 5040);
+        put_streams(&mut file[20_992..]);
+    }
+    put_rows(&mut file, &LONG_ENDS);
+    Ok(file)
+}
+
+#[test]
+fn row_of_links(rt: HostRuntime) -> Result<(), Fail> {
+    let file = long_row(rt.alloc())?;
+    let files = opened(rt.alloc(), &file, &mut Walk::new())?;
+    assert!(rt; files.child(files.root(), 19_999).is_some());
+    assert!(rt; files.child(files.root(), 20_000).is_none());
+    Ok(())
+}

@@ -1,0 +1,11 @@
+//! Tests of compound files, read and written: the crates that they are of are below, and have none of their own.
+#![tactic(auto)]
+
+#[cfg(test)]
+mod directory;
+#[cfg(test)]
+mod files;
+#[cfg(test)]
+mod sectors;
+#[cfg(test)]
+mod writer;

@@ -1,0 +1,152 @@
+//! What a list of storages and streams is written as.
+ghost use Rattle.std.specs.Prelude.{◌≡◌, ◌≤◌, length, vec_len, IfOk};
+
+use crate::files::{END, FOUR, FREE, Layout, Row, THREE, file_of, filled, put_names};
+use carrier_io::{Blob, MemorySink, NoMemory, u32_at, write_gathered};
+use cfb_writer::{Content, FileList, Plan, Version};
+use std::alloc::Global;
+use std::cell::Cell;
+use std::test::*;
+
+/// The files of a message whose property stream has these bytes.
+fn message<'t, B: Blob>(alloc: Global, properties: Vec<u8>) -> Result<FileList<'t, B>, NoMemory>
+    ensures { IfOk result (λ list. length list.storages ≡ 2) }
+{
+    let mut list = FileList::new(alloc)?;
+    list.add_stream(0, "__properties_version1.0", Content::Own(properties))?;
+    let map = list.add_storage(0, "__nameid_version1.0")?;
+    list.add_stream(map, "__substg1.0_00040102", Content::Own(Vec::new(alloc)))?;
+    list.add_stream(map, "__substg1.0_00020102", Content::Own(Vec::new(alloc)))?;
+    list.add_stream(map, "__substg1.0_00030102", Content::Own(Vec::new(alloc)))?;
+    Ok(list)
+}
+
+/// The sum of bytes modulo 65,536.
+fn sum_of(bytes: &[u8]) -> u16 {
+    let mut sum = 0u16;
+    for byte in bytes {
+        sum = sum.wrapping_add(u16::from(*byte));
+    }
+    sum
+}
+
+/// Whether the size, the bytes and the sum of a list's file are those of these bytes.
+fn is_written<'t, B: Blob>(
+    alloc: Global,
+    version: Version,
+    list: FileList<'t, B>,
+    expected: &[u8],
+) -> Result<[bool; 3], Fail> {
+    let plan = Plan::new(alloc, version, list).ok().ok_or("a plan")?;
+    let mut sink = MemorySink::new(alloc, 20_480, Vec::new(alloc))?;
+    plan.write(&mut sink).ok().ok_or("room")?;
+    Ok([
+        plan.size() == expected.len() as u64,
+        sink.bytes() == expected,
+        plan.sum() == sum_of(expected),
+    ])
+}
+
+/// Whether the smallest message is written as the file of a layout.
+fn is_smallest(alloc: Global, version: Version, layout: &Layout) -> Result<[bool; 3], Fail> {
+    let list: FileList<'static, Vec<u8>> = message(alloc, vec![in alloc; 0; 32]?)?;
+    is_written(alloc, version, list, &file_of(alloc, layout, &[])?)
+}
+
+#[test]
+fn the_smallest_files(rt: HostRuntime) -> Result<(), Fail> {
+    assert_eq!(rt; is_smallest(rt.alloc(), Version::Three, &THREE)?, [true; 3]);
+    assert_eq!(rt; is_smallest(rt.alloc(), Version::Four, &FOUR)?, [true; 3]);
+    Ok(())
+}
+
+/// A file of version 3 with an empty storage: the header, the table, and the root, the storage and two unused entries.
+const STORAGE: [Row<'static>; 11] = [
+    (0, &[0xE011_CFD0, 0xE11A_B1A1]),
+    (24, &[0x0003_003E, 0x0009_FFFE, 6]),
+    (44, &[1, 1, 0, 4096, END, 0, END, 0, 0]),
+    (512, &[0xFFFF_FFFD, END]),
+    (1088, &[0x0105_0016, FREE, FREE, 1]),
+    (1104, &[0x0909_0909, 0x0909_0909, 0x0909_0909, 0x0909_0909]),
+    (1140, &[END]),
+    (1216, &[0x0101_0004, FREE, FREE, FREE]),
+    (1232, &[0x0403_0201, 0x0807_0605, 0x0C0B_0A09, 0x100F_0E0D]),
+    (1348, &[FREE, FREE, FREE]),
+    (1476, &[FREE, FREE, FREE]),
+];
+
+#[test]
+fn an_empty_storage_with_a_class(rt: HostRuntime) -> Result<(), Fail> {
+    let class = [1, 2, 3, 4, 5, 6, 7, 8, 9, 10, 11, 12, 13, 14, 15, 16];
+    let mut list: FileList<'static, Vec<u8>> = FileList::new(rt.alloc())?;
+    list.set_root_class([9; 16]);
+    list.add_named_storage(0, &[65], class)?;
+    let grounds = [(80, 0), (1024, 0xFF), (1536, 0)];
+    let mut file = filled(rt.alloc(), &grounds, &STORAGE)?;
+    put_names(&mut file, &[(1024, "Root Entry"), (1152, "A")]);
+    let same = is_written(rt.alloc(), Version::Three, list, &file)?;
+    assert_eq!(rt; same, [true; 3]);
+    Ok(())
+}
+
+/// Bytes that count how often a piece of them was asked for.
+#[derive(Drop)]
+struct Counted {
+    bytes: Vec<u8>,
+    asked: Cell<u32>,
+}
+
+impl Blob for Counted {
+    ghost use Rattle.std.specs.Prelude.{ℕ, List, refl};
+
+    ghost bytes = { λ c. c.bytes.items };
+
+    ghost count = { λ _. 1 };
+
+    ghost part = { λ c _. c.bytes.items };
+
+    ghost joins = { λ _. refl };
+
+    fn len(&self) -> usize {
+        self.bytes.len()
+    }
+
+    fn pieces(&self) -> usize {
+        1
+    }
+
+    fn piece(&self, _k: usize) -> &[u8] {
+        self.asked.set(self.asked.get().saturating_add(1));
+        self.bytes.as_slice()
+    }
+}
+
+#[test]
+fn a_long_value(rt: HostRuntime) -> Result<(), Fail> {
+    let alloc = rt.alloc();
+    let value = Counted {
+        bytes: vec![in alloc; 0; 7_995_904]?,
+        asked: Cell::new(0),
+    };
+    let mut list = message(alloc, vec![in alloc; 0; 48]?)?;
+    let content = Content::Value {
+        bytes: &value,
+        zeros: 0,
+    };
+    list.add_named_stream(0, &[120], content)?;
+    let plan = Plan::new(alloc, Version::Three, list).ok().ok_or("a plan")?;
+    assert_eq!(rt; plan.size(), 8_062_464);
+    let before = value.asked.get();
+    let mut sink = MemorySink::new(alloc, 8_062_464, Vec::new(alloc))?;
+    write_gathered(&plan, &mut sink).ok().ok_or("room")?;
+    assert!(rt; value.asked.get() > before);
+    let bytes = sink.bytes();
+    assert_eq!(rt; bytes.len(), 8_062_464);
+    for (at, word) in [(44, 124), (68, 124), (72, 1), (64_000, 109), (64_508, END)] {
+        assert_eq!(rt; u32_at(bytes, at), word);
+    }
+    let mut small = MemorySink::new(alloc, 1_000_000, Vec::new(alloc))?;
+    assert!(rt; plan.write(&mut small).is_err());
+    assert_eq!(rt; small.bytes(), bytes.get(..1_000_000).ok_or("so many")?);
+    Ok(())
+}
