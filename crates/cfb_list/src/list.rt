@@ -143,6 +143,47 @@ impl<'t, B: Blob> FileList<'t, B> {
         self.storages.truncate(count);
     }
 
+    /// Adds a stream whose name has these units.
+    fn put_stream(
+        &mut self,
+        parent: usize,
+        name: Vec<u16>,
+        content: Content<'t, B>,
+    ) -> Result<(), NoMemory>
+        requires parent { parent < length self.old.storages }
+        requires name { length name.items ≤ 31 }
+        ensures ok { OnOk result (self.new ≡ record self.old { storages = listed.with_child self.old.storages parent (listed.stream name.items (content_bytes B.bytes content.entry)) }) }
+        ensures err { OnErr result (self.new ≡ self.old) }
+    {
+        let kind = Kind::Stream(content);
+        self.add(parent, File { name, kind })
+    }
+
+    /// Adds a storage whose name has these units, with a class, and answers its number.
+    fn put_storage(
+        &mut self,
+        parent: usize,
+        name: Vec<u16>,
+        class: [u8; 16],
+    ) -> Result<usize, NoMemory>
+        requires parent { parent < length self.old.storages }
+        requires name { length name.items ≤ 31 }
+        ensures number { IfOk result (λ n. n ≡ length self.old.storages) }
+        ensures ok { OnOk result (self.new ≡ record self.old { storages = listed.with_child self.old.storages parent (listed.storage name.items class (length self.old.storages)) ++ [] ∷ [] }) }
+        ensures err { OnErr result (self.new ≡ self.old) }
+    {
+        let number = self.storages.len();
+        self.add_empty()?;
+        let kind = Kind::Storage { class, number };
+        match self.add(parent, File { name, kind }) {
+            Ok(()) => Ok(number),
+            Err(refused) => {
+                self.keep_first(number);
+                Err(refused)
+            }
+        }
+    }
+
     /// Adds a stream to the storage with a number, by the UTF-16 units of its name. After NoMemory the list is unchanged.
     /// [MS-CFB 2.6.1]
     pub fn add_named_stream(
@@ -157,8 +198,7 @@ impl<'t, B: Blob> FileList<'t, B> {
         ensures err { OnErr result (self.new ≡ self.old) }
     {
         let name = name.to_vec(self.alloc)?;
-        let kind = Kind::Stream(content);
-        self.add(parent, File { name, kind })
+        self.put_stream(parent, name, content)
     }
 
     /// Adds a storage to that with a number, by the UTF-16 units of its name and a class of 16 bytes, and answers its
@@ -176,16 +216,7 @@ impl<'t, B: Blob> FileList<'t, B> {
         ensures err { OnErr result (self.new ≡ self.old) }
     {
         let name = name.to_vec(self.alloc)?;
-        let number = self.storages.len();
-        self.add_empty()?;
-        let kind = Kind::Storage { class, number };
-        match self.add(parent, File { name, kind }) {
-            Ok(()) => Ok(number),
-            Err(refused) => {
-                self.keep_first(number);
-                Err(refused)
-            }
-        }
+        self.put_storage(parent, name, class)
     }
 
     /// Adds a stream to the storage with a number, by a name of ASCII characters. After NoMemory the list is unchanged.
@@ -202,7 +233,7 @@ impl<'t, B: Blob> FileList<'t, B> {
         ensures err { OnErr result (self.new ≡ self.old) }
     {
         let units = units_of(self.alloc, name)?;
-        self.add_named_stream(parent, &units, content)
+        self.put_stream(parent, units, content)
     }
 
     /// Adds a storage without a class to that with a number, by a name of ASCII characters, and answers its number. After
@@ -215,7 +246,7 @@ impl<'t, B: Blob> FileList<'t, B> {
         ensures err { OnErr result (self.new ≡ self.old) }
     {
         let units = units_of(self.alloc, name)?;
-        self.add_named_storage(parent, &units, [0; 16])
+        self.put_storage(parent, units, [0; 16])
     }
 }
 
@@ -235,7 +266,7 @@ fn push_file<'t, B: Blob>(files: &mut Vec<File<'t, B>>, file: File<'t, B>) -> Re
 fn units_of(alloc: Global, text: &str) -> Result<Vec<u16>, NoMemory>
     ensures { IfOk result (λ units. units.items ≡ text.now) }
 {
-    let mut units = Vec::new(alloc);
+    let mut units = Vec::with_capacity(alloc, text.len())?;
     for byte in text.as_bytes() {
         units.push(u16::from(*byte))?;
     }

@@ -43,35 +43,39 @@ fn without_unicode(end: TextEnd) -> Status
     }
 }
 
-/// Writes the file of a message with its texts of 8-bit characters in 16-bit units.
-fn write_unicode<B: Blob, O: Sink>(alloc: Global, tree: &Tree<B>, output: &mut O) -> Status
-    ensures puts { (bytes : List ℕ) → PutsChange (changed to_unicode (plain_of tree.now)) bytes (O.held output.old) (O.held output.new) result }
+/// Writes the file of a message with its texts of 8-bit characters in 16-bit units. The message itself is gone by then.
+fn write_unicode<B: Blob, O: Sink>(alloc: Global, tree: Tree<B>, output: &mut O) -> Status
+    ensures puts { (bytes : List ℕ) → PutsChange (changed to_unicode (plain_of tree)) bytes (O.held output.old) (O.held output.new) result }
     ensures nothing { WritesNothing result output.old output.new }
     ensures fault { result ≡ Status.WriteFault → Rose (O.faults output.old) (O.faults output.new) }
     ensures no_usage { result ≡ Status.Usage → ⊥ }
     ensures no_read_fault { result ≡ Status.ReadFault → ⊥ }
 {
-    match unicode_of(alloc, tree) {
+    let converted = unicode_of(alloc, &tree);
+    drop(tree);
+    match converted {
         Ok(unicode) => write_file(alloc, &unicode, output),
         Err(end) => without_unicode(end),
     }
 }
 
-/// Writes the file of the message that edits make.
+/// Writes the file of the message that edits make. The one before them is gone by then.
 fn write_edited<B: Blob, O: Sink>(
     alloc: Global,
     edits: &Edits,
-    tree: &Tree<B>,
+    tree: Tree<B>,
     output: &mut O,
 ) -> Status
-    ensures puts { (bytes : List ℕ) → PutsChange (changed (plain_edited edits.now) (plain_of tree.now)) bytes (O.held output.old) (O.held output.new) result }
+    ensures puts { (bytes : List ℕ) → PutsChange (changed (plain_edited edits.now) (plain_of tree)) bytes (O.held output.old) (O.held output.new) result }
     ensures nothing { WritesNothing result output.old output.new }
     ensures fault { result ≡ Status.WriteFault → Rose (O.faults output.old) (O.faults output.new) }
     ensures no_usage { result ≡ Status.Usage → ⊥ }
     ensures no_read_fault { result ≡ Status.ReadFault → ⊥ }
 {
-    match edited(alloc, tree, edits) {
-        Ok(tree) => write_file(alloc, &tree, output),
+    let changed = edited(alloc, &tree, edits);
+    drop(tree);
+    match changed {
+        Ok(changed) => write_file(alloc, &changed, output),
         Err(EditEnd::Fault(fault)) => Status::Edit(fault),
         Err(EditEnd::NoMemory) => Status::NoMemory,
     }
@@ -88,8 +92,8 @@ pub fn unicode_bytes<O: Sink>(alloc: Global, bytes: &[u8], output: &mut O) -> St
 {
     match accept(alloc, bytes) {
         Err(stop) => stopped(stop),
-        Ok(Input::Msg(accepted)) => write_unicode(alloc, &accepted.tree, output),
-        Ok(Input::Tnef(accepted)) => write_unicode(alloc, &accepted.tree, output),
+        Ok(Input::Msg(accepted)) => write_unicode(alloc, accepted.tree, output),
+        Ok(Input::Tnef(accepted)) => write_unicode(alloc, accepted.tree, output),
     }
 }
 
@@ -104,7 +108,7 @@ pub fn edit_bytes<O: Sink>(alloc: Global, edits: &Edits, bytes: &[u8], output: &
 {
     match accept(alloc, bytes) {
         Err(stop) => stopped(stop),
-        Ok(Input::Msg(accepted)) => write_edited(alloc, edits, &accepted.tree, output),
-        Ok(Input::Tnef(accepted)) => write_edited(alloc, edits, &accepted.tree, output),
+        Ok(Input::Msg(accepted)) => write_edited(alloc, edits, accepted.tree, output),
+        Ok(Input::Tnef(accepted)) => write_edited(alloc, edits, accepted.tree, output),
     }
 }

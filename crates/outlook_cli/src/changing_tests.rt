@@ -21,7 +21,7 @@ fn with_props(rt: &HostRuntime, count: u8, props: &[&[u8]]) -> Result<Vec<u8>, F
 /// The stream whose texts were converted has these bytes.
 fn becomes(rt: &HostRuntime, input: &[u8], wanted: &[u8]) -> Result<(), Fail> {
     let file = file_of(rt, "to-unicode", input)?;
-    write(rt, &["to-tnef"], &file, wanted)
+    write(rt, "to-tnef", &file, wanted)
 }
 
 #[test]
@@ -63,62 +63,33 @@ fn texts_that_are_not_mapped(rt: HostRuntime) -> Result<(), Fail> {
     let gap = [0x1e, 0, 0x37, 0, 1, 0, 0, 0, 3, 0, 0, 0, 0x41, 0x81, 0, 0];
     let input = with_props(&rt, 1, &[&gap])?;
     let line = b"unmapped Byte property 0 element 0 at 1 page 1252\n";
-    ends(&rt, &["to-unicode"], &input, 7, line)?;
+    ends(&rt, "to-unicode", &input, 7, line)?;
     let empty = [0x1e, 0, 0x37, 0, 1, 0, 0, 0, 1, 0, 0, 0, 0, 0, 0, 0];
     let input = with_props(&rt, 2, &[&empty, &OTHER_PAGE])?;
     let line = b"unmapped Page property 0 element 0 at 0 page 932\n";
-    ends(&rt, &["to-unicode"], &input, 7, line)
+    ends(&rt, "to-unicode", &input, 7, line)
 }
 
 #[test]
 fn edits_are_done(rt: HostRuntime) -> Result<(), Fail> {
     let file = file_of(&rt, "to-msg", &ONE_PROPERTY)?;
-    let words = ["edit", "set", ".", "0017", "Integer32", "1"];
-    write(
-        &rt,
-        &words,
-        &ONE_PROPERTY,
-        &changed(&rt, &file, 2600, &[1])?,
-    )?;
-    let words = [
-        "edit",
-        "add-recipient",
-        ".",
-        "set",
-        "./r0",
-        "3001",
-        "String",
-        "r",
-        "drop-recipient",
-        ".",
-        "0",
-    ];
-    write(&rt, &words, &ONE_PROPERTY, &file)
+    let set = changed(&rt, &file, 2600, &[1])?;
+    write(&rt, "edit set . 0017 Integer32 1", &ONE_PROPERTY, &set)?;
+    let words = "edit add-recipient . set ./r0 3001 String r drop-recipient . 0";
+    write(&rt, words, &ONE_PROPERTY, &file)
 }
 
 #[test]
 fn edits_that_cannot_be_done(rt: HostRuntime) -> Result<(), Fail> {
-    let gone = ["edit", "remove", ".", "0037", "String"];
-    ends(&rt, &gone, &ONE_PROPERTY, 9, b"edit 0 NoProperty\n")?;
-    let below = [
-        "edit",
-        "remove",
-        ".",
-        "0017",
-        "Integer32",
-        "set",
-        "./m0",
-        "0017",
-        "Integer32",
-        "1",
-    ];
-    ends(&rt, &below, &ONE_PROPERTY, 9, b"edit 1 NoPlace\n")
+    let gone = "edit remove . 0037 String";
+    ends(&rt, gone, &ONE_PROPERTY, 9, b"edit 0 NoProperty\n")?;
+    let below = "edit remove . 0017 Integer32 set ./m0 0017 Integer32 1";
+    ends(&rt, below, &ONE_PROPERTY, 9, b"edit 1 NoPlace\n")
 }
 
 #[test]
 fn edits_that_are_none(rt: HostRuntime) -> Result<(), Fail> {
-    let great = ["edit", "set", ".", "0017", "Integer32", "4294967296"];
-    for words in [&great[..], &["edit"][..]] {
+    for words in ["edit set . 0017 Integer32 4294967296", "edit"] {
         let got = run_over(&rt, words, &ONE_PROPERTY, &[0], &[])?;
         assert!(rt; matches!(got.status, Status::Usage));
     }

@@ -13,50 +13,39 @@ const FOUR: [u8; 36] = [
     0, 7, 0x0e, 5, 0, 0, 0,
 ];
 
-/// The numbers of a compound file of three sectors that has nothing in it but its root, by their places.
-const EMPTY_FILE: [(u32, u32); 31] = [
-    (0, 0xE011_CFD0),
-    (4, 0xE11A_B1A1),
-    (24, 0x0003_003E),
-    (28, 0x0009_FFFE),
-    (32, 6),
-    (44, 1),
-    (48, 1),
-    (56, 4096),
-    (60, 0xFFFF_FFFE),
-    (68, 0xFFFF_FFFE),
-    (512, 0xFFFF_FFFD),
-    (516, 0xFFFF_FFFE),
-    (1024, 0x006F_0052),
-    (1028, 0x0074_006F),
-    (1032, 0x0045_0020),
-    (1036, 0x0074_006E),
-    (1040, 0x0079_0072),
-    (1088, 0x0105_0016),
-    (1092, 0xFFFF_FFFF),
-    (1096, 0xFFFF_FFFF),
-    (1100, 0xFFFF_FFFF),
-    (1140, 0xFFFF_FFFE),
-    (1220, 0xFFFF_FFFF),
-    (1224, 0xFFFF_FFFF),
-    (1228, 0xFFFF_FFFF),
-    (1348, 0xFFFF_FFFF),
-    (1352, 0xFFFF_FFFF),
-    (1356, 0xFFFF_FFFF),
-    (1476, 0xFFFF_FFFF),
-    (1480, 0xFFFF_FFFF),
-    (1484, 0xFFFF_FFFF),
+const FREE: u32 = 0xFFFF_FFFF;
+
+const END: u32 = 0xFFFF_FFFE;
+
+/// The numbers of a compound file of three sectors that has nothing in it but its root, from some places on: the header,
+/// the table, the root's name, links and start, and three unused entries.
+const EMPTY_FILE: [(u32, &[u32]); 11] = [
+    (0, &[0xE011_CFD0, 0xE11A_B1A1]),
+    (24, &[0x0003_003E, 0x0009_FFFE, 6]),
+    (44, &[1, 1, 0, 4096, END, 0, END]),
+    (512, &[0xFFFF_FFFD, END]),
+    (1024, &[0x006F_0052, 0x0074_006F, 0x0045_0020]),
+    (1036, &[0x0074_006E, 0x0079_0072]),
+    (1088, &[0x0105_0016, FREE, FREE, FREE]),
+    (1140, &[END]),
+    (1220, &[FREE, FREE, FREE]),
+    (1348, &[FREE, FREE, FREE]),
+    (1476, &[FREE, FREE, FREE]),
 ];
 
-/// A compound file with these numbers, and free words where its table has no other.
-fn compound(rt: &HostRuntime, numbers: &[(u32, u32)]) -> Result<Vec<u8>, Fail> {
-    let mut file = Vec::new(rt.alloc());
-    for at in 0..1536u32 {
-        let free = (80 <= at && at < 512) || (520 <= at && at < 1024);
-        file.push(if free { 0xFF } else { 0 })?;
+/// Writes numbers from a place on.
+fn put(file: &mut Vec<u8>, at: u32, numbers: &[u32]) {
+    for (field, number) in file.chunks_exact_mut(4).skip(at as usize / 4).zip(numbers) {
+        field.copy_from_slice(&number.to_le_bytes());
     }
-    for (at, number) in numbers {
-        file = changed(rt, &file, *at as usize, &number.to_le_bytes())?;
+}
+
+/// A compound file with these numbers, and free words where its table has no other.
+fn compound(rt: &HostRuntime, numbers: &[(u32, &[u32])]) -> Result<Vec<u8>, Fail> {
+    let mut file = vec![in rt.alloc(); 0; 1536]?;
+    put(&mut file, 80, &[FREE; 236]);
+    for (at, numbers) in numbers {
+        put(&mut file, *at, numbers);
     }
     Ok(file)
 }
@@ -79,7 +68,7 @@ fn lists_across_mini_sectors(rt: HostRuntime) -> Result<(), Fail> {
     let inner = listed(&rt, &FOUR)?;
     let stream = with_object(&rt, 103, &[&MESSAGE, &inner, &[0]])?;
     let file = file_of(&rt, "to-msg", &stream)?;
-    write(&rt, &["to-tnef"], &file, &stream)
+    write(&rt, "to-tnef", &file, &stream)
 }
 
 #[test]
@@ -92,7 +81,7 @@ fn values_in_falling_sectors(rt: HostRuntime) -> Result<(), Fail> {
     let stream = listed(&rt, &list)?;
     let file = file_of(&rt, "to-msg", &stream)?;
     assert_eq!(rt; file.len(), 8192);
-    write(&rt, &["to-tnef"], &falling(&rt, &file)?, &stream)
+    write(&rt, "to-tnef", &falling(&rt, &file)?, &stream)
 }
 
 /// A file with an Object, a property of a type that a list does not keep, an empty text without a stream and two red entries.
@@ -117,7 +106,7 @@ fn entries_that_are_passed_over(rt: HostRuntime) -> Result<(), Fail> {
         2, 0, 0, 0, 3, 0, 0x17, 0, 2, 0, 0, 0, 0x1f, 0, 0x37, 0, 1, 0, 0, 0, 2, 0, 0, 0, 0, 0, 0, 0,
     ];
     let file = with_passed_entries(&rt)?;
-    write(&rt, &["to-tnef"], &file, &listed(&rt, &list)?)
+    write(&rt, "to-tnef", &file, &listed(&rt, &list)?)
 }
 
 #[test]
@@ -125,22 +114,20 @@ fn a_store_without_members(rt: HostRuntime) -> Result<(), Fail> {
     let carried = compound(&rt, &EMPTY_FILE)?;
     let stream = with_object(&rt, 1552, &[&STORAGE, &carried])?;
     assert_eq!(rt; stream.len(), 1659);
-    write(&rt, &["to-tnef"], &stream, &stream)?;
+    write(&rt, "to-tnef", &stream, &stream)?;
     let file = file_of(&rt, "to-msg", &stream)?;
     assert_eq!(rt; file.len(), 3584);
-    write(&rt, &["to-tnef"], &file, &stream)
+    write(&rt, "to-tnef", &file, &stream)
 }
 
 /// The carried file whose root has one stream without bytes, named U+2345.
 fn with_member(rt: &HostRuntime) -> Result<Vec<u8>, Fail> {
-    let mut numbers = EMPTY_FILE.to_vec(rt.alloc())?;
-    numbers.extend_from_slice(&[
-        (1100, 1),
-        (1152, 0x2345),
-        (1216, 0x0102_0004),
-        (1268, 0xFFFF_FFFE),
-    ])?;
-    compound(rt, &numbers)
+    let mut file = compound(rt, &EMPTY_FILE)?;
+    put(&mut file, 1100, &[1]);
+    put(&mut file, 1152, &[0x2345]);
+    put(&mut file, 1216, &[0x0102_0004]);
+    put(&mut file, 1268, &[END]);
+    Ok(file)
 }
 
 /// A directory entry's first 66 bytes: a name and its length in bytes, with its null.
@@ -173,6 +160,6 @@ fn a_file_with_a_level_too_many(rt: HostRuntime) -> Result<(), Fail> {
         0x0d, 0, 1, 0x37, 6, 0, 0, 0, 0xff, 0xff, 0xff, 0xff, 4, 0, 0, 0,
     ];
     let place = place_of(&file, &entry).ok_or("an entry")?;
-    let writers = ["to-msg", "to-msg4", "to-tnef"];
-    refuse(&rt, &writers, &deep, Reason::TooDeep, place as u64)
+    let writers = "to-msg to-msg4 to-tnef";
+    refuse(&rt, writers, &deep, Reason::TooDeep, place as u64)
 }

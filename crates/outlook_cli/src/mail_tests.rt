@@ -15,46 +15,21 @@ const MIXED: &[u8] =
 
 #[test]
 fn streams_go_into_mails(rt: HostRuntime) -> Result<(), Fail> {
-    write(&rt, &["wrap"], &STREAM, &MAIL)
+    write(&rt, "wrap", &STREAM, &MAIL)
 }
 
 #[test]
 fn streams_come_out_of_mails(rt: HostRuntime) -> Result<(), Fail> {
-    write(&rt, &["unwrap"], &MAIL, &STREAM)?;
+    write(&rt, "unwrap", &MAIL, &STREAM)?;
     let mut mixed = MIXED.to_vec(rt.alloc())?;
     mixed.extend_from_slice(b"--b1--\n")?;
-    write(&rt, &["unwrap"], &mixed, &STREAM)
-}
-
-/// A mail without the bytes from one place up to another.
-fn without(rt: &HostRuntime, mail: &[u8], from: usize, to: usize) -> Result<Vec<u8>, Fail> {
-    let mut rest = mail.get(..from).ok_or("a front")?.to_vec(rt.alloc())?;
-    rest.extend_from_slice(mail.get(to..).ok_or("an end")?)?;
-    Ok(rest)
-}
-
-#[test]
-fn mails_without_a_character(rt: HostRuntime) -> Result<(), Fail> {
-    let less = without(&rt, &MAIL, 175, 176)?;
-    refuse(&rt, &["unwrap"], &less, Reason::BadPadding, 177)?;
-    let unencoded = without(&rt, &MAIL, 73, 108)?;
-    refuse(&rt, &["unwrap"], &unencoded, Reason::NotBase64, 133)?;
-    let unbounded = without(&rt, MIXED, 29, 44)?;
-    refuse(&rt, &["unwrap"], &unbounded, Reason::BadBoundary, 0)
+    write(&rt, "unwrap", &mixed, &STREAM)
 }
 
 #[test]
 fn mails_are_refused(rt: HostRuntime) -> Result<(), Fail> {
     let mut other = MAIL;
     other[175] = b'*';
-    let table = [
-        (&other[..], Reason::BadBase64, 175),
-        (&b" Subject: report\n\n"[..], Reason::BadHeaderLine, 0),
-        (MIXED, Reason::MissingClose, 186),
-        (&b"Subject: report\n\nhello\n"[..], Reason::NoTnefPart, 0),
-    ];
-    for (input, reason, offset) in table {
-        refuse(&rt, &["unwrap"], input, reason, offset)?;
-    }
-    Ok(())
+    refuse(&rt, "unwrap", &other, Reason::BadBase64, 175)?;
+    refuse(&rt, "unwrap", MIXED, Reason::MissingClose, 186)
 }

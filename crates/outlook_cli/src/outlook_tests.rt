@@ -50,10 +50,10 @@ fn a_stream_of_outlook(rt: HostRuntime) -> Result<(), Fail> {
     let file = file_of(&rt, "to-msg", &stream)?;
     assert!(rt; place_of(&file, &rtf).is_some());
     assert!(rt; place_of(&file, &data).is_some());
-    let shown = run_over(&rt, &["show"], &file, &[], &[])?;
+    let shown = run_over(&rt, "show", &file, &[], &[])?;
     assert!(rt; shown.output.starts_with(FIRST));
     assert!(rt; shown.output.ends_with(LAST));
-    let checked = run_over(&rt, &["check"], &stream, &[], &[])?;
+    let checked = run_over(&rt, "check", &stream, &[], &[])?;
     assert!(rt;
         checked
             .output

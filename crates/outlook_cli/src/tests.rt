@@ -32,17 +32,17 @@ pub(crate) fn is_refused(got: &Outcome, reason: Reason, offset: u64) -> bool {
     }
 }
 
-/// Runs the words over an input, with devices that fail at the calls of these numbers.
+/// Runs words, with blanks between them, over an input, with devices that fail at the calls of these numbers.
 pub(crate) fn run_over(
     rt: &HostRuntime,
-    words: &[&str],
+    words: &str,
     input: &[u8],
     failing_reads: &[u64],
     failing_writes: &[u64],
 ) -> Result<Outcome, Fail> {
     let alloc = rt.alloc();
     let mut list = Vec::new(alloc);
-    for word in words {
+    for word in words.split_whitespace() {
         list.push(String::from_str(alloc, word)?)?;
     }
     let mut source = MemorySource::new(input.to_vec(alloc)?, failing_reads.to_vec(alloc)?);
@@ -68,7 +68,7 @@ pub(crate) fn holds(fact: bool, what: &'static str) -> Result<(), Fail> {
 /// Words over an input have to end with a code and a line, and write nothing.
 pub(crate) fn ends(
     rt: &HostRuntime,
-    words: &[&str],
+    words: &str,
     input: &[u8],
     code: u8,
     line: &[u8],
@@ -79,16 +79,16 @@ pub(crate) fn ends(
     holds(got.output.is_empty(), "something was written")
 }
 
-/// Each of some commands has to refuse an input for a reason at an offset, and to write nothing.
+/// Each of some commands, with blanks between them, has to refuse an input for a reason at an offset, and to write nothing.
 pub(crate) fn refuse(
     rt: &HostRuntime,
-    commands: &[&str],
+    commands: &str,
     input: &[u8],
     reason: Reason,
     offset: u64,
 ) -> Result<(), Fail> {
-    for command in commands {
-        let got = run_over(rt, &[*command], input, &[], &[])?;
+    for command in commands.split_whitespace() {
+        let got = run_over(rt, command, input, &[], &[])?;
         holds(is_refused(&got, reason, offset), "another fault or none")?;
         holds(got.output.is_empty(), "something was written")?;
     }
@@ -98,7 +98,7 @@ pub(crate) fn refuse(
 /// Words over an input have to write these bytes and to report nothing.
 pub(crate) fn write(
     rt: &HostRuntime,
-    words: &[&str],
+    words: &str,
     input: &[u8],
     wanted: &[u8],
 ) -> Result<(), Fail> {
@@ -110,27 +110,26 @@ pub(crate) fn write(
 
 #[test]
 fn streams_are_translated(rt: HostRuntime) -> Result<(), Fail> {
-    write(&rt, &["to-tnef"], &ONE_PROPERTY, &ONE_PROPERTY)?;
+    write(&rt, "to-tnef", &ONE_PROPERTY, &ONE_PROPERTY)?;
     let mut without = ONE_PROPERTY[..40].to_vec(rt.alloc())?;
     without.extend_from_slice(&NO_PROPERTIES)?;
     let empty = [0x78, 0x9f, 0x3e, 0x22, 0x00, 0x00];
-    write(&rt, &["to-tnef"], &empty, &without)
+    write(&rt, "to-tnef", &empty, &without)
 }
 
 #[test]
 fn streams_are_refused(rt: HostRuntime) -> Result<(), Fail> {
-    ends(&rt, &["to-tnef"], &[], 1, b"refused 1 NotACarrier at 0\n")?;
+    ends(&rt, "to-tnef", &[], 1, b"refused 1 NotACarrier at 0\n")?;
     let mut sum = ONE_PROPERTY;
     sum[61] = 0x1e;
-    ends(&rt, &["to-tnef"], &sum, 1, b"refused 63 BadSum at 61\n")?;
+    ends(&rt, "to-tnef", &sum, 1, b"refused 63 BadSum at 61\n")?;
     let cut = &ONE_PROPERTY[..62];
-    ends(&rt, &["to-tnef"], cut, 1, b"refused 62 Truncated at 61\n")
+    ends(&rt, "to-tnef", cut, 1, b"refused 62 Truncated at 61\n")
 }
 
 #[test]
 fn other_words_are_usage(rt: HostRuntime) -> Result<(), Fail> {
-    let table = [&["to-msg", "x"][..], &[][..], &["sample", "007"][..]];
-    for words in table {
+    for words in ["to-msg x", "", "sample 007"] {
         let got = run_over(&rt, words, &ONE_PROPERTY, &[0], &[])?;
         assert!(rt; matches!(got.status, Status::Usage));
         assert_eq!(rt; got.status.code(), 2);
@@ -145,11 +144,11 @@ fn other_words_are_usage(rt: HostRuntime) -> Result<(), Fail> {
 
 #[test]
 fn devices_that_fail(rt: HostRuntime) -> Result<(), Fail> {
-    let got = run_over(&rt, &["to-tnef"], &ONE_PROPERTY, &[0], &[])?;
+    let got = run_over(&rt, "to-tnef", &ONE_PROPERTY, &[0], &[])?;
     assert!(rt; matches!(got.status, Status::ReadFault));
     assert_eq!(rt; got.output.len(), 0);
     assert_eq!(rt; got.report.as_slice(), &b"read fault\n"[..]);
-    let got = run_over(&rt, &["to-tnef"], &ONE_PROPERTY, &[], &[0])?;
+    let got = run_over(&rt, "to-tnef", &ONE_PROPERTY, &[], &[0])?;
     assert!(rt; matches!(got.status, Status::WriteFault));
     assert_eq!(rt; got.output.len(), 0);
     assert_eq!(rt; got.report.as_slice(), &b"write fault\n"[..]);
