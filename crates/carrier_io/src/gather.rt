@@ -131,6 +131,7 @@ impl<D: Lent, K: Opening> Gatherer<D, K> {
     }
 
     /// Puts a piece behind the others in hand.
+    #[inline(always)]
     fn keep(&mut self, piece: &[u8])
         requires ready { self.old.refused ≡ 0 }
         requires room { self.old.len + length piece.now ≤ 16384 }
@@ -150,6 +151,7 @@ impl<D: Lent, K: Opening> Sink for Gatherer<D, K> {
 
     ghost faults = { λ g. D.faults g.device + g.refused };
 
+    #[inline(always)]
     fn write(&mut self, piece: &[u8]) -> Result<usize, Failed> {
         if self.refused > 0 || piece.len() > PAGE - self.len {
             self.flush()?;

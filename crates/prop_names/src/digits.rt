@@ -2,16 +2,18 @@
 ghost use Rattle.std.specs.Prelude.{◌≡◌, ◌<◌, ◌%◌};
 ghost use Rattle.carrier_model.specs.KeyTexts.{hex_digit, hex_digits, lower, upper};
 
+/// The upper-case characters of the digits.
+static UPPER: [u8; 16] = *b"0123456789ABCDEF";
+
+/// The lower-case characters of the digits.
+static LOWER: [u8; 16] = *b"0123456789abcdef";
+
 /// The upper-case character of a digit.
 fn upper_digit(digit: u32) -> u8
     requires { digit < 16 }
     ensures { result ≡ hex_digit upper digit }
 {
-    if digit < 10 {
-        b'0' + digit as u8
-    } else {
-        b'A' + digit as u8 - 10
-    }
+    UPPER[digit as usize]
 }
 
 /// The lower-case character of a digit.
@@ -19,11 +21,7 @@ fn lower_digit(digit: u32) -> u8
     requires { digit < 16 }
     ensures { result ≡ hex_digit lower digit }
 {
-    if digit < 10 {
-        b'0' + digit as u8
-    } else {
-        b'a' + digit as u8 - 10
-    }
+    LOWER[digit as usize]
 }
 
 /// Two lower-case digits.
@@ -80,6 +78,7 @@ fn last_digit(n: u64) -> u8
 }
 
 /// Sixteen upper-case digits.
+#[inline(always)]
 pub fn upper_digits16(n: u64) -> [u8; 16]
     ensures { result ≡ hex_digits upper 16 n }
 {

@@ -62,6 +62,7 @@ impl Name {
     }
 
     /// By the GUID's bytes, then numbers by value before texts unit by unit.
+    #[inline(never)]
     pub fn order(&self, other: &Name) -> Ordering
         ensures order { result ≡ name_cmp (name_of self.now) (name_of other.now) }
         ensures equal { (result ≡ Ordering.Equal) ↔ (name_of self.now ≡ name_of other.now) }

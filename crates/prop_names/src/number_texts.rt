@@ -9,6 +9,9 @@ use itoa::Buffer;
 pub fn write_decimal<W: Sink>(sink: &mut W, n: u64) -> Result<(), Failed>
     ensures { Writes (W.held sink.old) (W.held sink.new) (W.faults sink.old) (W.faults sink.new) result (decimal n) }
 {
+    if n < 10 {
+        return write_pieces(sink, &[b'0' + n as u8]);
+    }
     let mut buffer = Buffer::new();
     let text = buffer.format(n);
     write_pieces(sink, text.as_bytes())

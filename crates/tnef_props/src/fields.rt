@@ -9,6 +9,7 @@ use crate::rest::Rest;
 use carrier_io::{Fault, Reason, Stop, pad4, u32_at};
 
 /// So many bytes.
+#[inline(always)]
 pub fn raw<'a>(from: Rest<'a>, n: usize) -> Result<(&'a [u8], Rest<'a>), Stop>
     ensures found { IfOk result (λ x. Takes (lists.raw n) from.entry x.0.now x.1) }
     ensures fault { IfErr result (Refuses (lists.raw n) from.entry) }
@@ -30,6 +31,7 @@ pub fn raw<'a>(from: Rest<'a>, n: usize) -> Result<(&'a [u8], Rest<'a>), Stop>
 }
 
 /// A number of four bytes.
+#[inline(always)]
 pub fn word<'a>(from: Rest<'a>) -> Result<(u32, Rest<'a>), Stop>
     ensures found { IfOk result (λ x. Takes lists.word from.entry x.0 x.1) }
     ensures fault { IfErr result (Refuses lists.word from.entry) }
@@ -39,6 +41,7 @@ pub fn word<'a>(from: Rest<'a>) -> Result<(u32, Rest<'a>), Stop>
 }
 
 /// Passes over what is missing to a multiple of four behind n bytes.
+#[inline(always)]
 pub fn skip_padding<'a>(from: Rest<'a>, n: usize) -> Result<Rest<'a>, Stop>
     ensures found { IfOk result (λ to. (x : List ℕ) × Takes (lists.raw (octets.pad4 n)) from.entry x to) }
     ensures fault { IfErr result (Refuses (lists.raw (octets.pad4 n)) from.entry) }
@@ -48,6 +51,7 @@ pub fn skip_padding<'a>(from: Rest<'a>, n: usize) -> Result<Rest<'a>, Stop>
 }
 
 /// So many bytes, with padding behind them.
+#[inline(always)]
 pub fn padded<'a>(from: Rest<'a>, n: usize) -> Result<(&'a [u8], Rest<'a>), Stop>
     ensures found { IfOk result (λ x. Takes (lists.padded n) from.entry x.0.now x.1) }
     ensures fault { IfErr result (Refuses (lists.padded n) from.entry) }

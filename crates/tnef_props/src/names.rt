@@ -99,6 +99,7 @@ pub fn guid<'a>(from: Rest<'a>) -> Result<(Guid, Rest<'a>), Stop>
 
 /// A property set's GUID, and a number or a text in it.
 #[tactic(auto, unfolding(tnef_model::specs::TnefLists::name))]
+#[inline(never)]
 fn name<'a>(alloc: Global, from: Rest<'a>) -> Result<(Name, Rest<'a>), Stop>
     ensures found { IfOk result (λ x. Takes lists.name from.entry (name_of x.0) x.1) }
     ensures name { IfOk result (λ x. IsName (name_of x.0)) }
@@ -115,6 +116,7 @@ fn name<'a>(alloc: Global, from: Rest<'a>) -> Result<(Name, Rest<'a>), Stop>
 
 /// The key of an id: the id itself, or from 8000 on the name that follows.
 #[tactic(auto, unfolding(tnef_model::specs::TnefLists::key))]
+#[inline(always)]
 pub fn key<'a>(alloc: Global, from: Rest<'a>, id: u16) -> Result<(Key, Rest<'a>), Stop>
     ensures found { IfOk result (λ x. Takes (lists.key id) from.entry (key_of x.0) x.1) }
     ensures key { IfOk result (λ x. IsKey (key_of x.0)) }

@@ -19,6 +19,7 @@ use prop_values::{Guids, Kind, Parts, Shape, Value};
 use std::alloc::Global;
 
 /// The number that two, four or eight bytes are.
+#[inline(always)]
 fn number_in(bytes: &[u8]) -> u64
     requires { IsWidth (length bytes.now) }
     ensures number { result ≡ octets.le_number bytes.now }
