@@ -1,61 +1,44 @@
 use crate::gathering::Streams;
 use crate::hashes::hash_number;
-use crate::map::NameMap;
-use carrier_io::Units;
+use crate::tests::{APPOINTMENT, NUMBER, holds, one_name, text};
+use carrier_io::NoMemory;
 use cfb_list::{Content, File, FileList, Kind};
-use prop_names::{Guid, Name, NameSet};
 use std::alloc::Global;
 use std::test::*;
 
-/// The set of appointments.
-const APPOINTMENT: Guid = Guid([
-    0x02, 0x20, 0x06, 0x00, 0x00, 0x00, 0x00, 0x00, 0xC0, 0x00, 0x00, 0x00, 0x00, 0x00, 0x00, 0x46,
-]);
-
-/// The set of names by text.
-const STRINGS: Guid = Guid([
-    0x29, 0x03, 0x02, 0x00, 0x00, 0x00, 0x00, 0x00, 0xC0, 0x00, 0x00, 0x00, 0x00, 0x00, 0x00, 0x46,
-]);
-
-fn text(alloc: Global, set: Guid, unit: u16) -> Result<Name, Fail> {
-    let mut units = Units::new(alloc);
-    units.push(unit).ok().ok_or("no memory")?;
-    Ok(Name::of_text(alloc, set, units).ok().ok_or("no memory")?)
+fn hashed(alloc: Global, letter: u16, sum: u32) -> Result<(), Fail> {
+    let name = text(alloc, &[letter])?;
+    holds(hash_number(&name) == sum, "another sum")
 }
 
 #[test]
 fn texts_are_hashed(rt: HostRuntime) -> Result<(), Fail> {
-    let rows = [
-        (0x8000, 0xEDB8_8320),
-        (0x0080, 0x3B83_984B),
-        (0x0041, 0xE962_7E44),
-    ];
-    for (unit, sum) in rows {
-        let name = text(rt.alloc(), STRINGS, unit)?;
-        assert_eq!(rt; hash_number(&name), sum);
-    }
-    Ok(())
+    hashed(rt.alloc(), 0x8000, 0xEDB8_8320)?;
+    hashed(rt.alloc(), 0x0080, 0x3B83_984B)?;
+    hashed(rt.alloc(), 0x0041, 0xE962_7E44)
+}
+
+/// The streams of a number and a text.
+fn two_names(alloc: Global) -> Result<Streams, NoMemory> {
+    let word = text(alloc, &[0x41])?;
+    let mut streams = Streams::new(alloc)?;
+    streams.push(0, &NUMBER)?;
+    streams.push(1, &word)?;
+    Ok(streams)
 }
 
 #[test]
 fn streams_of_two_names(rt: HostRuntime) -> Result<(), Fail> {
-    let alloc = rt.alloc();
-    let mut streams = Streams::new(alloc).ok().ok_or("no memory")?;
-    let number = Name::Number {
-        set: APPOINTMENT,
-        number: 0x820D,
-    };
-    streams.push(0, &number).ok().ok_or("no memory")?;
-    let word = text(alloc, STRINGS, 0x41)?;
-    streams.push(1, &word).ok().ok_or("no memory")?;
-    let guids = streams.sets.bytes(alloc).ok().ok_or("no memory")?;
-    assert_eq!(rt; guids.as_slice(), &APPOINTMENT.0[..]);
-    assert_eq!(rt;
-        streams.entries.as_slice(),
-        &[0x0D, 0x82, 0, 0, 6, 0, 0, 0, 0, 0, 0, 0, 5, 0, 1, 0][..]
-    );
-    assert_eq!(rt; streams.texts.as_slice(), &[2, 0, 0, 0, 0x41, 0, 0, 0][..]);
-    Ok(())
+    let streams = two_names(rt.alloc())?;
+    let entries = [0x0D, 0x82, 0, 0, 6, 0, 0, 0, 0, 0, 0, 0, 5, 0, 1, 0];
+    holds(
+        streams.entries.as_slice() == entries.as_slice(),
+        "other entries",
+    )?;
+    let texts = [2, 0, 0, 0, 0x41, 0, 0, 0];
+    holds(streams.texts.as_slice() == texts.as_slice(), "other texts")?;
+    let sets = streams.sets.bytes(rt.alloc())?;
+    holds(sets.as_slice() == APPOINTMENT.0.as_slice(), "other sets")
 }
 
 /// Whether a stream has this name and these bytes.
@@ -70,25 +53,23 @@ fn is_stream(file: &File<'_, Vec<u8>>, name: &str, bytes: &[u8]) -> bool {
     }
 }
 
+/// Whether these are the streams of one name.
+fn are_streams(files: &[File<'_, Vec<u8>>]) -> bool {
+    let entry = [0x0D, 0x82, 0, 0, 6, 0, 0, 0];
+    files.len() == 4
+        && is_stream(&files[0], "__substg1.0_00020102", &APPOINTMENT.0)
+        && is_stream(&files[1], "__substg1.0_00030102", &entry)
+        && is_stream(&files[2], "__substg1.0_00040102", &[])
+        && is_stream(&files[3], "__substg1.0_101C0102", &entry)
+}
+
 #[test]
 fn the_storage_of_one_name(rt: HostRuntime) -> Result<(), Fail> {
-    let alloc = rt.alloc();
-    let number = Name::Number {
-        set: APPOINTMENT,
-        number: 0x820D,
-    };
-    let mut names = NameSet::new(alloc);
-    names.insert(&number).ok().ok_or("no memory")?;
-    let map = NameMap::assign(alloc, &names).ok().ok_or("no memory")?;
-    let mut files: FileList<'_, Vec<u8>> = FileList::new(alloc).ok().ok_or("no memory")?;
-    map.add_streams(alloc, &mut files).ok().ok_or("no memory")?;
-    assert_eq!(rt; files.count(), 2);
-    let streams = files.files_in(1);
-    assert_eq!(rt; streams.len(), 4);
-    let entry = [0x0D, 0x82, 0, 0, 6, 0, 0, 0];
-    assert!(rt; is_stream(&streams[0], "__substg1.0_00020102", &APPOINTMENT.0));
-    assert!(rt; is_stream(&streams[1], "__substg1.0_00030102", &entry));
-    assert!(rt; is_stream(&streams[2], "__substg1.0_00040102", &[]));
-    assert!(rt; is_stream(&streams[3], "__substg1.0_101C0102", &entry));
-    Ok(())
+    let map = one_name(rt.alloc())?;
+    let mut files: FileList<'_, Vec<u8>> = FileList::new(rt.alloc())?;
+    map.add_streams(rt.alloc(), &mut files)?;
+    holds(
+        files.count() == 2 && are_streams(files.files_in(1)),
+        "other streams",
+    )
 }

@@ -1,5 +1,7 @@
 ghost use Rattle.std.specs.Prelude.{◌≡◌, ◌<◌, length};
+ghost use Rattle.carrier_model.specs.Tree as plain;
 ghost use Rattle.carrier_model.specs.Keys.{IsName};
+ghost use Rattle.msg_tree.specs.Whole.{plain_of};
 ghost use Rattle.prop_names.specs.Meaning.{name_of};
 
 use crate::{
@@ -7,13 +9,17 @@ use crate::{
     Store, Tree, copy_owned, counts, depth, fits_msg, fits_tnef, names, same,
 };
 use carrier_io::{Blob, NoMemory, PassedList, Units};
-use prop_names::{Guid, Key, Name};
-use prop_values::{InsertEnd, Kind, Prop, Props, Value};
+use prop_names::{Guid, Key, Name, NameSet};
+use prop_values::{Kind, Prop, Props, Value};
 use std::alloc::Global;
-use std::process::Abort;
 use std::test::*;
 
 const SET: Guid = Guid([0x62; 16]);
+
+const NUMBER: Name = Name::Number {
+    set: SET,
+    number: 0x820D,
+};
 
 /// Bytes in two borrowed pieces.
 #[derive(Clone, Copy)]
@@ -48,6 +54,7 @@ impl<'a> Blob for Halves<'a> {
     }
 }
 
+/// Bytes under an id.
 fn binary<B: Blob>(id: u16, bytes: B) -> Prop<B>
     requires id { id < 0x8000 }
     requires short { length (B.bytes bytes) < 0x4000_0000 }
@@ -61,6 +68,7 @@ fn binary<B: Blob>(id: u16, bytes: B) -> Prop<B>
     }
 }
 
+/// The number 7 under a name.
 fn named<B: Blob>(name: Name) -> Prop<B>
     requires { IsName (name_of name) }
 {
@@ -73,49 +81,64 @@ fn named<B: Blob>(name: Name) -> Prop<B>
     }
 }
 
-fn boxed<B: Blob>(alloc: Global, message: Message<B>) -> Result<Box<Message<B>>, NoMemory> {
-    Ok(Box::new(alloc, message)?)
+/// A list with one property.
+fn listed<B: Blob>(alloc: Global, prop: Prop<B>) -> Result<Props<B>, NoMemory> {
+    let mut props = Props::new(alloc);
+    match props.insert_sorted(prop) {
+        Ok(()) => Ok(props),
+        Err(_) => Err(NoMemory),
+    }
 }
 
-fn empty<B: Blob>(alloc: Global) -> Message<B> {
+/// A message with these properties alone.
+fn bare<B: Blob>(alloc: Global, props: Props<B>) -> Message<B> {
     Message {
-        props: Props::new(alloc),
+        props,
         recipients: Recipients::new(alloc),
         attachments: Attachments::new(alloc),
     }
 }
 
-// A message with two properties, a recipient with one, an attachment with one and in it a message with one, and an
-// attachment without any.
-fn sample<B: Blob>(alloc: Global, first: B, second: B, third: B) -> Result<Message<B>, InsertEnd<B>>
-    requires first { length (B.bytes first) < 0x4000_0000 }
-    requires second { length (B.bytes second) < 0x4000_0000 }
-    requires third { length (B.bytes third) < 0x4000_0000 }
+/// A message with one attachment alone.
+fn around<B: Blob>(alloc: Global, props: Props<B>, body: Body<B>) -> Result<Message<B>, NoMemory> {
+    let mut message = bare(alloc, Props::new(alloc));
+    message.attachments.push(Attachment { props, body })?;
+    Ok(message)
+}
+
+/// A message with an attachment that has a property and a message with one, and with an attachment without any.
+fn outer<B: Blob + Copy>(alloc: Global, bytes: B) -> Result<Message<B>, NoMemory>
+    requires { length (B.bytes bytes) < 0x4000_0000 }
 {
-    let mut inner = empty(alloc);
-    inner.props.insert_sorted(binary(0x1013, third))?;
-    let mut props = Props::new(alloc);
-    props.insert_sorted(binary(0x3701, second))?;
-    let mut top = empty(alloc);
-    top.attachments.push(Attachment {
-        props,
-        body: Body::Message(boxed(alloc, inner)?),
-    })?;
-    top.attachments.push(Attachment {
+    let inner = bare(alloc, listed(alloc, binary(0x1013, bytes))?);
+    let body = Body::Message(Box::new(alloc, inner)?);
+    let mut outer = around(alloc, listed(alloc, binary(0x3701, bytes))?, body)?;
+    outer.attachments.push(Attachment {
         props: Props::new(alloc),
         body: Body::Plain,
     })?;
+    Ok(outer)
+}
+
+/// A recipient with one property, under a text.
+fn recipient<B: Blob>(alloc: Global) -> Result<Props<B>, NoMemory> {
     let mut units = Units::new(alloc);
     units.push(0x61)?;
-    let mut recipient = Props::new(alloc);
-    recipient.insert_sorted(named(Name::of_text(alloc, SET, units)?))?;
-    top.recipients.push(recipient)?;
-    top.props.insert_sorted(named(Name::Number {
-        set: SET,
-        number: 0x820D,
-    }))?;
-    top.props.insert_sorted(binary(0x1013, first))?;
-    Ok(top)
+    listed(alloc, named(Name::of_text(alloc, SET, units)?))
+}
+
+/// That message with a recipient and two properties.
+fn sample<B: Blob + Copy>(alloc: Global, bytes: B) -> Result<Message<B>, NoMemory>
+    requires { length (B.bytes bytes) < 0x4000_0000 }
+{
+    let mut props = listed(alloc, named(NUMBER))?;
+    if props.insert_sorted(binary(0x1013, bytes)).is_err() {
+        return Err(NoMemory);
+    }
+    let mut message = outer(alloc, bytes)?;
+    message.props = props;
+    message.recipients.push(recipient(alloc)?)?;
+    Ok(message)
 }
 
 /// What is in the sample.
@@ -127,37 +150,43 @@ const IN_SAMPLE: Counts = Counts {
     depth: 1,
 };
 
-// What every call answers on the sample, whatever its blobs are.
-fn every_call<B: Blob>(
-    rt: &impl Abort,
-    alloc: Global,
-    message: Message<B>,
-) -> Result<Tree<Vec<u8>>, Fail> {
-    let tree = Tree::new(message).ok().ok_or("a tree")?;
-    let names = names(alloc, &tree).ok().ok_or("two names")?;
-    let as_msg = fits_msg(&tree, &names);
-    let as_tnef = fits_tnef(&tree, &names);
-    assert_eq!(rt; (as_msg, as_tnef), (None, None));
-    let copy = copy_owned(alloc, &tree).ok().ok_or("a copy")?;
-    assert!(rt; same(&tree, &copy));
-    assert_eq!(rt; tree.top().attachments.len(), 2);
-    assert_eq!(rt; depth(&tree), 1);
-    assert_eq!(rt; names.len(), 2);
-    assert_eq!(rt;
-        names.position(&Name::Number {
-            set: SET,
-            number: 0x820D
-        }),
-        Some(0)
-    );
-    assert_eq!(rt; counts(&tree), IN_SAMPLE);
-    assert_eq!(rt; counts(&copy), IN_SAMPLE);
-    let accepted = Accepted {
-        tree,
-        passed: PassedList::new(alloc),
-    };
-    assert_eq!(rt; accepted.passed.len(), 0);
-    Ok(copy)
+/// What is not so fails the test.
+fn holds(fact: bool, what: &'static str) -> Result<(), Fail> {
+    if fact { Ok(()) } else { Err(what.into()) }
+}
+
+/// A tree of the message.
+fn tree_of<B: Blob>(message: Result<Message<B>, NoMemory>) -> Result<Tree<B>, Fail> {
+    Ok(Tree::new(message?).ok().ok_or("a tree")?)
+}
+
+/// A copy, which has to be the same.
+fn copied<B: Blob>(alloc: Global, tree: &Tree<B>) -> Result<Tree<Vec<u8>>, Fail> {
+    let copy = copy_owned(alloc, tree)?;
+    if same(tree, &copy) {
+        Ok(copy)
+    } else {
+        Err("another copy".into())
+    }
+}
+
+/// Whether the names are those of the sample, and within both limits.
+fn are_few<B: Blob>(tree: &Tree<B>, names: &NameSet) -> bool
+    requires { names.now ≡ plain.names_of (plain_of tree.now) }
+{
+    fits_msg(tree, names).is_none()
+        && fits_tnef(tree, names).is_none()
+        && names.len() == 2
+        && names.position(&NUMBER) == Some(0)
+}
+
+/// What every call answers on the sample, whatever its blobs are; and a copy.
+fn every_call<B: Blob>(alloc: Global, tree: &Tree<B>) -> Result<Tree<Vec<u8>>, Fail> {
+    holds(are_few(tree, &names(alloc, tree)?), "other names")?;
+    let attachments = tree.top().attachments.len();
+    holds(attachments == 2 && depth(tree) == 1, "another tree")?;
+    holds(counts(tree) == IN_SAMPLE, "other numbers")?;
+    copied(alloc, tree)
 }
 
 #[test]
@@ -168,65 +197,58 @@ fn calls_on_three_blobs(rt: HostRuntime) -> Result<(), Fail> {
         first: &bytes[..1],
         second: &bytes[1..],
     };
-    let whole = bytes.as_slice();
-    let cut = sample(alloc, halves, halves, halves)
-        .ok()
-        .ok_or("a message")?;
-    let borrowed = sample(alloc, whole, whole, whole).ok().ok_or("a message")?;
-    let one = every_call(&rt, alloc, cut)?;
-    let other = every_call(&rt, alloc, borrowed)?;
-    assert!(rt; same(&one, &other));
-    Ok(())
+    let one = every_call(alloc, &tree_of(sample(alloc, halves))?)?;
+    let other = every_call(alloc, &tree_of(sample(alloc, bytes.as_slice()))?)?;
+    let whole = counts(&one) == IN_SAMPLE && counts(&other) == IN_SAMPLE;
+    holds(whole && same(&one, &other), "another copy")
 }
 
-// A message with so many levels below it.
+#[test]
+fn nothing_is_passed_over(rt: HostRuntime) -> Result<(), Fail> {
+    let accepted = Accepted {
+        tree: tree_of(sample(rt.alloc(), &[1u8, 2, 3, 4][..]))?,
+        passed: PassedList::new(rt.alloc()),
+    };
+    holds(accepted.passed.len() == 0, "something is")
+}
+
+/// A message with so many levels below it.
 fn chain(alloc: Global, levels: u64) -> Result<Message<Vec<u8>>, NoMemory> {
-    let mut message = empty(alloc);
+    let mut message = bare(alloc, Props::new(alloc));
     for _ in 0..levels {
-        let mut outer = empty(alloc);
-        outer.attachments.push(Attachment {
-            props: Props::new(alloc),
-            body: Body::Message(boxed(alloc, message)?),
-        })?;
-        message = outer;
+        let body = Body::Message(Box::new(alloc, message)?);
+        message = around(alloc, Props::new(alloc), body)?;
     }
     Ok(message)
 }
 
 #[test]
 fn greatest_level(rt: HostRuntime) -> Result<(), Fail> {
-    let deep = Tree::new(chain(rt.alloc(), 32).ok().ok_or("32 levels")?);
-    let deepest = deep.ok().ok_or("a tree of 32 levels")?;
-    assert_eq!(rt; depth(&deepest), 32);
-    let copy = copy_owned(rt.alloc(), &deepest).ok().ok_or("a copy")?;
-    assert!(rt; same(&deepest, &copy));
-    let deeper = Tree::new(chain(rt.alloc(), 33).ok().ok_or("33 levels")?);
-    assert!(rt; deeper.is_err());
-    Ok(())
+    let deepest = tree_of(chain(rt.alloc(), 32))?;
+    holds(depth(&deepest) == 32, "another level")?;
+    copied(rt.alloc(), &deepest)?;
+    let deeper = chain(rt.alloc(), 33)?;
+    holds(Tree::new(deeper).is_err(), "a tree of 33 levels")
 }
 
 #[test]
 fn limits_of_a_message(rt: HostRuntime) -> Result<(), Fail> {
     let alloc = rt.alloc();
-    let mut message: Message<Vec<u8>> = empty(alloc);
+    let mut message: Message<Vec<u8>> = bare(alloc, Props::new(alloc));
     for _ in 0..2049 {
-        message
-            .recipients
-            .push(Props::new(alloc))
-            .ok()
-            .ok_or("a recipient")?;
+        message.recipients.push(Props::new(alloc))?;
     }
-    let tree = Tree::new(message).ok().ok_or("a tree")?;
-    let names = names(alloc, &tree).ok().ok_or("no names")?;
-    assert_eq!(rt; fits_msg(&tree, &names), Some(Limit::Recipients(2049)));
-    assert_eq!(rt; fits_tnef(&tree, &names), None);
-    Ok(())
+    let tree = tree_of(Ok(message))?;
+    let names = names(alloc, &tree)?;
+    let many = fits_msg(&tree, &names) == Some(Limit::Recipients(2049));
+    holds(many && fits_tnef(&tree, &names).is_none(), "other limits")
 }
 
-fn class_of(member: &Member<Vec<u8>>) -> [u8; 16] {
-    match member {
-        Member::Stream(_) => [2; 16],
-        Member::Storage(inner) => inner.class(),
+/// Whether a member was handed back, a storage of this class.
+fn is_back(end: Result<(), MemberEnd<Vec<u8>>>, class: [u8; 16]) -> bool {
+    match end {
+        Err(MemberEnd::Duplicate(Member::Storage(inner))) => inner.class() == class,
+        _ => false,
     }
 }
 
@@ -237,26 +259,13 @@ fn members_by_their_names(rt: HostRuntime) -> Result<(), Fail> {
     let inner = Member::Storage(Store::new(alloc, [8; 16]));
     store.insert(&[0x61], inner).ok().ok_or("a member")?;
     let double = Member::Storage(Store::new(alloc, [9; 16]));
-    let back = match store.insert(&[0x41], double) {
-        Ok(()) => [0; 16],
-        Err(MemberEnd::NoMemory) => [1; 16],
-        Err(MemberEnd::Duplicate(member)) => class_of(&member),
-    };
-    assert_eq!(rt; back, [9; 16]);
-    assert_eq!(rt; store.len(), 1);
-    assert_eq!(rt; store.class(), [7; 16]);
-    let mut message = empty(alloc);
-    message
-        .attachments
-        .push(Attachment {
-            props: Props::new(alloc),
-            body: Body::Store(store),
-        })
-        .ok()
-        .ok_or("an attachment")?;
-    let tree = Tree::new(message).ok().ok_or("a tree")?;
-    let copy = copy_owned(alloc, &tree).ok().ok_or("a copy")?;
-    assert!(rt; same(&tree, &copy));
+    let back = is_back(store.insert(&[0x41], double), [9; 16]);
+    holds(
+        back && store.len() == 1 && store.class() == [7; 16],
+        "another store",
+    )?;
+    let message = around(alloc, Props::new(alloc), Body::Store(store));
+    copied(alloc, &tree_of(message)?)?;
     Ok(())
 }
 
@@ -271,15 +280,6 @@ fn a_store_that_is_a_message(rt: HostRuntime) -> Result<(), Fail> {
     let mut store: Store<Vec<u8>> = Store::new(alloc, [0; 16]);
     let list = Member::Stream(Vec::new(alloc));
     store.insert(&LIST, list).ok().ok_or("a member")?;
-    let mut message = empty(alloc);
-    message
-        .attachments
-        .push(Attachment {
-            props: Props::new(alloc),
-            body: Body::Store(store),
-        })
-        .ok()
-        .ok_or("an attachment")?;
-    assert!(rt; Tree::new(message).is_err());
-    Ok(())
+    let message = around(alloc, Props::new(alloc), Body::Store(store))?;
+    holds(Tree::new(message).is_err(), "a tree")
 }

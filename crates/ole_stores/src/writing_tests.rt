@@ -26,17 +26,15 @@ fn a_store_is_written(rt: HostRuntime) -> Result<(), Fail> {
         .insert(&[97], Member::Stream(short))
         .ok()
         .ok_or("a place")?;
-    let plan = store_plan(alloc, &store).ok().ok_or("a plan")?;
+    let plan = store_plan(alloc, &store)?;
     assert_eq!(rt; plan.size(), 7680);
     assert_eq!(rt; plan.sum(), 58811);
-    let mut sink = MemorySink::new(alloc, 7680, Vec::new(alloc))
-        .ok()
-        .ok_or("memory")?;
-    plan.write(&mut sink).ok().ok_or("room")?;
+    let mut sink = MemorySink::new(alloc, 7680, Vec::new(alloc))?;
+    assert!(rt; plan.write(&mut sink).is_ok());
     let bytes = sink.bytes();
-    assert_eq!(rt; bytes.get(1104..1120), Some(&CLASS[..]));
-    assert_eq!(rt; bytes.get(1360..1376), Some(&[5; 16][..]));
-    assert_eq!(rt; bytes.get(2048..2051), Some(&b"abc"[..]));
-    assert_eq!(rt; bytes.get(2560..2563), Some(&b"xxx"[..]));
+    assert!(rt; bytes.get(1104..1120) == Some(&CLASS[..]));
+    assert!(rt; bytes.get(1360..1376) == Some(&[5; 16][..]));
+    assert!(rt; bytes.get(2048..2051) == Some(&b"abc"[..]));
+    assert!(rt; bytes.get(2560..2563) == Some(&b"xxx"[..]));
     Ok(())
 }
