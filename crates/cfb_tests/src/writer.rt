@@ -121,32 +121,57 @@ impl Blob for Counted {
     }
 }
 
-#[test]
-fn a_long_value(rt: HostRuntime) -> Result<(), Fail> {
-    let alloc = rt.alloc();
-    let value = Counted {
-        bytes: vec![in alloc; 0; 7_995_904]?,
-        asked: Cell::new(0),
-    };
+/// The plan of a message with a value in a stream.
+fn plan_of<'t>(alloc: Global, value: &'t Counted) -> Result<Plan<'t, Counted>, Fail> {
     let mut list = message(alloc, vec![in alloc; 0; 48]?)?;
     let content = Content::Value {
-        bytes: &value,
+        bytes: value,
         zeros: 0,
     };
     list.add_named_stream(0, &[120], content)?;
-    let plan = Plan::new(alloc, Version::Three, list).ok().ok_or("a plan")?;
+    Ok(Plan::new(alloc, Version::Three, list).ok().ok_or("a plan")?)
+}
+
+/// What a plan writes in large pieces.
+fn gathered<B: Blob>(alloc: Global, plan: &Plan<'_, B>) -> Result<Vec<u8>, Fail> {
+    let mut sink = MemorySink::new(alloc, 8_062_464, Vec::new(alloc))?;
+    write_gathered(plan, &mut sink).ok().ok_or("room")?;
+    Ok(sink.bytes().to_vec(alloc)?)
+}
+
+/// How many sectors the table has, where its list begins and how many sectors that has, and the list's first and last word.
+fn words_in(bytes: &[u8]) -> Result<[u32; 5], Fail> {
+    if bytes.len() != 8_062_464 {
+        return Err("a length")?;
+    }
+    Ok([
+        u32_at(bytes, 44),
+        u32_at(bytes, 68),
+        u32_at(bytes, 72),
+        u32_at(bytes, 64_000),
+        u32_at(bytes, 64_508),
+    ])
+}
+
+/// Whether a plan fails where there is room for 1,000,000 bytes, and these are its front.
+fn fails_behind<B: Blob>(alloc: Global, plan: &Plan<'_, B>, front: &[u8]) -> Result<bool, Fail> {
+    let mut small = MemorySink::new(alloc, 1_000_000, Vec::new(alloc))?;
+    Ok(plan.write(&mut small).is_err() && small.bytes() == front)
+}
+
+#[test]
+fn a_long_value(rt: HostRuntime) -> Result<(), Fail> {
+    let value = Counted {
+        bytes: vec![in rt.alloc(); 0; 7_995_904]?,
+        asked: Cell::new(0),
+    };
+    let plan = plan_of(rt.alloc(), &value)?;
     assert_eq!(rt; plan.size(), 8_062_464);
     let before = value.asked.get();
-    let mut sink = MemorySink::new(alloc, 8_062_464, Vec::new(alloc))?;
-    write_gathered(&plan, &mut sink).ok().ok_or("room")?;
+    let bytes = gathered(rt.alloc(), &plan)?;
     assert!(rt; value.asked.get() > before);
-    let bytes = sink.bytes();
-    assert_eq!(rt; bytes.len(), 8_062_464);
-    for (at, word) in [(44, 124), (68, 124), (72, 1), (64_000, 109), (64_508, END)] {
-        assert_eq!(rt; u32_at(bytes, at), word);
-    }
-    let mut small = MemorySink::new(alloc, 1_000_000, Vec::new(alloc))?;
-    assert!(rt; plan.write(&mut small).is_err());
-    assert_eq!(rt; small.bytes(), bytes.get(..1_000_000).ok_or("so many")?);
+    assert_eq!(rt; words_in(&bytes)?, [124, 124, 1, 109, END]);
+    let front = bytes.get(..1_000_000).ok_or("so many")?;
+    assert!(rt; fails_behind(rt.alloc(), &plan, front)?);
     Ok(())
 }
