@@ -13,6 +13,7 @@ const MOST_SPACES: usize = 160;
 static SPACES: [u8; MOST_SPACES] = [b' '; MOST_SPACES];
 
 /// Appends so many spaces.
+#[inline(always)]
 pub fn write_indent<W: Sink>(sink: &mut W, indent: usize) -> Result<(), Failed>
     requires { indent ≤ 160 }
     ensures { Writes (W.held sink.old) (W.held sink.new) (W.faults sink.old) (W.faults sink.new) result (replicate indent 0x20) }
