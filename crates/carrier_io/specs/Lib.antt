@@ -4,6 +4,7 @@ pub mod Causes
 pub mod Known
 pub mod Lists
 pub mod Memory
+pub mod Numbers
 pub mod Pieces
 pub mod Reads
 pub mod Reasons

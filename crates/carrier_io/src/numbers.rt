@@ -5,18 +5,28 @@ use crate::failures::NoMemory;
 use std::alloc::Global;
 use std::marker::Model;
 
-/// A list of numbers.
+/// A list of numbers. Most have one, which takes no memory of its own.
 #[derive(Debug, Drop)]
 pub struct Numbers {
-    list: Vec<u64>,
+    alloc: Global,
+    held: Few,
+}
+
+/// The numbers of a list.
+#[derive(Debug, Drop)]
+enum Few {
+    None,
+    One(u64),
+    Many(Vec<u64>),
 }
 
 impl Model for Numbers {
     ghost use Rattle.std.specs.Prelude.{ℕ, List};
+    ghost use Rattle.carrier_io.specs.Numbers.{numbers_in};
 
     ghost Value = { List ℕ };
 
-    ghost view = { λ s. s.list.items };
+    ghost view = { λ s. numbers_in s.held };
 }
 
 impl Numbers {
@@ -24,7 +34,8 @@ impl Numbers {
         ensures { result ≡ [] }
     {
         Numbers {
-            list: Vec::new(alloc),
+            alloc,
+            held: Few::None,
         }
     }
 
@@ -32,8 +43,12 @@ impl Numbers {
     pub fn with_capacity(alloc: Global, capacity: usize) -> Result<Numbers, NoMemory>
         ensures { IfOk result (λ list. list ≡ []) }
     {
+        if capacity < 2 {
+            return Ok(Numbers::new(alloc));
+        }
         Ok(Numbers {
-            list: Vec::with_capacity(alloc, capacity)?,
+            alloc,
+            held: Few::Many(Vec::with_capacity(alloc, capacity)?),
         })
     }
 
@@ -41,20 +56,35 @@ impl Numbers {
         ensures ok { OnOk result (self.new ≡ self.old ++ item ∷ []) }
         ensures err { OnErr result (self.new ≡ self.old) }
     {
-        self.list.push(item)?;
+        match &mut self.held {
+            Few::None => self.held = Few::One(item),
+            Few::One(first) => {
+                let both = [*first, item];
+                self.held = Few::Many(Vec::from_array(self.alloc, both)?);
+            }
+            Few::Many(list) => list.push(item)?,
+        }
         Ok(())
     }
 
     pub fn len(&self) -> usize
         ensures { result ≡ length self.now }
     {
-        self.list.len()
+        match &self.held {
+            Few::None => 0,
+            Few::One(_) => 1,
+            Few::Many(list) => list.len(),
+        }
     }
 
     pub fn get(&self, k: usize) -> &u64
         requires { k < length self.now }
         ensures { slice_get self.now k ≡ Some result.now }
     {
-        &self.list[k]
+        match &self.held {
+            Few::None => unreachable!(),
+            Few::One(item) => item,
+            Few::Many(list) => &list[k],
+        }
     }
 }
