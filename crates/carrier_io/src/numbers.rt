@@ -5,7 +5,7 @@ use crate::failures::NoMemory;
 use std::alloc::Global;
 use std::marker::Model;
 
-/// A list of numbers. Most have one, which takes no memory of its own.
+/// A list of numbers. Where there is one, it takes no memory of its own.
 #[derive(Debug, Drop)]
 pub struct Numbers {
     alloc: Global,
@@ -17,7 +17,7 @@ pub struct Numbers {
 enum Few {
     None,
     One(u64),
-    Many(Vec<u64>),
+    Many(Box<Vec<u64>>),
 }
 
 impl Model for Numbers {
@@ -48,7 +48,7 @@ impl Numbers {
         }
         Ok(Numbers {
             alloc,
-            held: Few::Many(Vec::with_capacity(alloc, capacity)?),
+            held: Few::Many(Box::new(alloc, Vec::with_capacity(alloc, capacity)?)?),
         })
     }
 
@@ -60,7 +60,8 @@ impl Numbers {
             Few::None => self.held = Few::One(item),
             Few::One(first) => {
                 let both = [*first, item];
-                self.held = Few::Many(Vec::from_array(self.alloc, both)?);
+                let list = Vec::from_array(self.alloc, both)?;
+                self.held = Few::Many(Box::new(self.alloc, list)?);
             }
             Few::Many(list) => list.push(item)?,
         }
