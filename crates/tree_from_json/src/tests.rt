@@ -86,7 +86,10 @@ fn is_at(fault: &JsonFault, row: &Row) -> bool {
 
 /// The text of a row between others has to have its fault.
 fn refused(alloc: Global, before: &str, row: &Row, behind: &str) -> Result<(), Fail> {
-    let text = joined(alloc, &[before, row.0, behind])?;
+    let mut text = String::new(alloc);
+    text.push_str(before)?;
+    text.push_str(row.0)?;
+    text.push_str(behind)?;
     let fault = fault_of(alloc, text.as_str()).ok_or("a fault")?;
     holds(is_at(&fault, row), "another fault")
 }
