@@ -9,6 +9,7 @@ mod object;
 mod object_places;
 mod ranges;
 mod rest;
+mod short;
 mod sizes;
 mod texts;
 mod values;

@@ -27,7 +27,7 @@ fn append_keyed<B: Blob, W: Sink>(
     Ok(key.wrapping_add(value))
 }
 
-/// Appends a property. A tag and a number go in one piece.
+/// Appends a property. A tag goes with the number, or with the size of the text, as one piece.
 fn append_prop<B: Blob, W: Sink>(
     sink: &mut W,
     names: &NameSet,

@@ -9,7 +9,8 @@ ghost use Rattle.prop_names.specs.Meaning.{key_of, name_of};
 ghost use Rattle.carrier_io.specs.Summed.{Sums};
 ghost use Rattle.tnef_props.specs.Named.{label_field, HasKey};
 
-use carrier_io::{Failed, Sink, Units, append, append_zeros, le16, le32, pad4};
+use crate::short::{append_array, append_few_zeros};
+use carrier_io::{Failed, Sink, Units, le16, le32, pad4};
 use prop_names::{Key, Name, NameSet};
 
 /// Ids from here on stand for names.
@@ -33,7 +34,7 @@ pub fn append_tag<W: Sink>(sink: &mut W, id: u16, kind: u16) -> Result<u16, Fail
 {
     let kind = le16(kind);
     let id = le16(id);
-    append(sink, &[kind[0], kind[1], id[0], id[1]])
+    append_array(sink, &[kind[0], kind[1], id[0], id[1]])
 }
 
 /// Appends units, each in two bytes.
@@ -42,7 +43,7 @@ fn append_units<W: Sink>(sink: &mut W, units: &Units) -> Result<u16, Failed>
 {
     let mut sum = 0u16;
     for k in 0..units.len() {
-        sum = sum.wrapping_add(append(sink, &le16(*units.get(k)))?);
+        sum = sum.wrapping_add(append_array(sink, &le16(*units.get(k)))?);
     }
     Ok(sum)
 }
@@ -53,7 +54,7 @@ fn append_padded_units<W: Sink>(sink: &mut W, units: &Units) -> Result<u16, Fail
     ensures { Sums (W.held sink.old) (W.held sink.new) (W.faults sink.old) (W.faults sink.new) result (canon.zero_padded (octets.unit_bytes (units.now ++ 0 ∷ []))) }
 {
     let text = append_units(sink, units)?;
-    let zeros = append_zeros(sink, 2 + pad4(2 * (units.len() as u64 + 1)))?;
+    let zeros = append_few_zeros(sink, 2 + pad4(2 * (units.len() as u64 + 1)) as usize)?;
     Ok(text.wrapping_add(zeros))
 }
 
@@ -63,7 +64,7 @@ fn append_text<W: Sink>(sink: &mut W, units: &Units) -> Result<u16, Failed>
     ensures { Sums (W.held sink.old) (W.held sink.new) (W.faults sink.old) (W.faults sink.new) result (model_le32 1 ++ canon.with_size (octets.unit_bytes (units.now ++ 0 ∷ []))) }
 {
     let size = le32(2 * (units.len() as u32 + 1));
-    let head = append(sink, &[1, 0, 0, 0, size[0], size[1], size[2], size[3]])?;
+    let head = append_array(sink, &[1, 0, 0, 0, size[0], size[1], size[2], size[3]])?;
     let text = append_padded_units(sink, units)?;
     Ok(head.wrapping_add(text))
 }
@@ -76,7 +77,7 @@ fn append_label<W: Sink>(sink: &mut W, name: &Name) -> Result<u16, Failed>
     match name {
         Name::Number { number, .. } => {
             let n = le32(*number);
-            append(sink, &[0, 0, 0, 0, n[0], n[1], n[2], n[3]])
+            append_array(sink, &[0, 0, 0, 0, n[0], n[1], n[2], n[3]])
         }
         Name::Text(text) => append_text(sink, &text.units),
     }
@@ -87,7 +88,7 @@ fn append_name<W: Sink>(sink: &mut W, name: &Name) -> Result<u16, Failed>
     requires { IsName (name_of name.now) }
     ensures { Sums (W.held sink.old) (W.held sink.new) (W.faults sink.old) (W.faults sink.new) result (canon.name_bytes (name_of name.now)) }
 {
-    let set = append(sink, &name.set().0)?;
+    let set = append_array(sink, &name.set().0)?;
     let label = append_label(sink, name)?;
     Ok(set.wrapping_add(label))
 }

@@ -8,10 +8,9 @@ ghost use Rattle.prop_values.specs.Meaning.{value_of};
 ghost use Rattle.carrier_io.specs.Summed.{Sums};
 ghost use Rattle.tnef_props.specs.Written.{HasWidth, Fits, number_field, text_field, count_field, counted, content_field};
 
+use crate::short::{append_array, append_few_zeros};
 use crate::writing_keys::append_tag;
-use carrier_io::{
-    Blob, Failed, Numbers, Sink, append, append_blob, append_zeros, le16, le32, le64, pad4,
-};
+use carrier_io::{Blob, Failed, Numbers, Sink, append_blob, le16, le32, le64, pad4};
 use prop_values::{Guids, Kind, Parts, Shape, Value};
 
 /// Whether a number of the kind, or each of several, has eight bytes. Every other has two or four.
@@ -32,9 +31,9 @@ fn append_number<W: Sink>(sink: &mut W, wide: bool, bits: u64) -> Result<u16, Fa
     ensures { Sums (W.held sink.old) (W.held sink.new) (W.faults sink.old) (W.faults sink.new) result (number_field wide bits) }
 {
     if wide {
-        append(sink, &le64(bits))
+        append_array(sink, &le64(bits))
     } else {
-        append(sink, &le32(bits as u32))
+        append_array(sink, &le32(bits as u32))
     }
 }
 
@@ -45,7 +44,7 @@ fn append_padded<B: Blob, W: Sink>(sink: &mut W, null: usize, text: &B) -> Resul
     ensures { Sums (W.held sink.old) (W.held sink.new) (W.faults sink.old) (W.faults sink.new) result (canon.zero_padded (B.bytes text.now ++ replicate null 0)) }
 {
     let bytes = append_blob(sink, text)?;
-    let zeros = append_zeros(sink, null as u64 + pad4((text.len() + null) as u64))?;
+    let zeros = append_few_zeros(sink, null + pad4((text.len() + null) as u64) as usize)?;
     Ok(bytes.wrapping_add(zeros))
 }
 
@@ -55,7 +54,7 @@ fn append_text<B: Blob, W: Sink>(sink: &mut W, null: usize, text: &B) -> Result<
     requires short { length (B.bytes text.now) < 0x4000_0000 }
     ensures { Sums (W.held sink.old) (W.held sink.new) (W.faults sink.old) (W.faults sink.new) result (text_field null (B.bytes text.now)) }
 {
-    let size = append(sink, &le32((text.len() + null) as u32))?;
+    let size = append_array(sink, &le32((text.len() + null) as u32))?;
     let bytes = append_padded(sink, null, text)?;
     Ok(size.wrapping_add(bytes))
 }
@@ -67,7 +66,7 @@ fn append_one_text<B: Blob, W: Sink>(sink: &mut W, null: usize, text: &B) -> Res
     ensures { Sums (W.held sink.old) (W.held sink.new) (W.faults sink.old) (W.faults sink.new) result (model_le32 1 ++ text_field null (B.bytes text.now)) }
 {
     let size = le32((text.len() + null) as u32);
-    let head = append(sink, &[1, 0, 0, 0, size[0], size[1], size[2], size[3]])?;
+    let head = append_array(sink, &[1, 0, 0, 0, size[0], size[1], size[2], size[3]])?;
     let bytes = append_padded(sink, null, text)?;
     Ok(head.wrapping_add(bytes))
 }
@@ -90,7 +89,7 @@ fn append_guids<W: Sink>(sink: &mut W, list: &Guids) -> Result<u16, Failed>
 {
     let mut sum = 0u16;
     for k in 0..list.len() {
-        sum = sum.wrapping_add(append(sink, &list.get(k).0)?);
+        sum = sum.wrapping_add(append_array(sink, &list.get(k).0)?);
     }
     Ok(sum)
 }
@@ -128,7 +127,7 @@ fn append_count<B: Blob, W: Sink>(sink: &mut W, value: &Value<B>) -> Result<u16,
     ensures { Sums (W.held sink.old) (W.held sink.new) (W.faults sink.old) (W.faults sink.new) result (count_field (counted (value_of B.bytes value.now))) }
 {
     match count_of(value) {
-        Some(count) => append(sink, &le32(count as u32)),
+        Some(count) => append_array(sink, &le32(count as u32)),
         None => Ok(0),
     }
 }
@@ -140,7 +139,7 @@ fn append_content<B: Blob, W: Sink>(sink: &mut W, value: &Value<B>) -> Result<u1
 {
     match value {
         Value::Number { kind, bits } => append_number(sink, is_wide(*kind), *bits),
-        Value::Guid(set) => append(sink, &set.0),
+        Value::Guid(set) => append_array(sink, &set.0),
         Value::Bytes { kind, bytes } => append_text(sink, kind.null_size(), bytes),
         Value::Numbers { kind, list } => append_numbers(sink, is_wide(*kind), list),
         Value::Guids(list) => append_guids(sink, list),
@@ -184,7 +183,7 @@ fn append_tagged_number<W: Sink>(
     let id = le16(id);
     if wide {
         let number = le64(bits);
-        append(
+        append_array(
             sink,
             &[
                 kind[0], kind[1], id[0], id[1], number[0], number[1], number[2], number[3],
@@ -193,13 +192,38 @@ fn append_tagged_number<W: Sink>(
         )
     } else {
         let number = le32(bits as u32);
-        append(
+        append_array(
             sink,
             &[
                 kind[0], kind[1], id[0], id[1], number[0], number[1], number[2], number[3],
             ],
         )
     }
+}
+
+/// Appends a tag, and a text with a count of one before it; what stands before the text's bytes goes in one piece.
+fn append_tagged_text<B: Blob, W: Sink>(
+    sink: &mut W,
+    id: u16,
+    kind: u16,
+    null: usize,
+    text: &B,
+) -> Result<u16, Failed>
+    requires null { null ≤ 2 }
+    requires short { length (B.bytes text.now) < 0x4000_0000 }
+    ensures { Sums (W.held sink.old) (W.held sink.new) (W.faults sink.old) (W.faults sink.new) result (canon.tag_bytes id kind ++ (model_le32 1 ++ text_field null (B.bytes text.now))) }
+{
+    let kind = le16(kind);
+    let id = le16(id);
+    let size = le32((text.len() + null) as u32);
+    let head = append_array(
+        sink,
+        &[
+            kind[0], kind[1], id[0], id[1], 1, 0, 0, 0, size[0], size[1], size[2], size[3],
+        ],
+    )?;
+    let bytes = append_padded(sink, null, text)?;
+    Ok(head.wrapping_add(bytes))
 }
 
 /// Appends a tag with an id, and a value.
@@ -215,9 +239,12 @@ pub fn append_unnamed<B: Blob, W: Sink>(
         Value::Number { kind, bits } => {
             append_tagged_number(sink, id, kind.number(), is_wide(*kind), *bits)
         }
+        Value::Bytes { kind, bytes } => {
+            append_tagged_text(sink, id, kind.number(), kind.null_size(), bytes)
+        }
         _ => {
             let tag = append_tag(sink, id, value.kind().number())?;
-            let rest = append_value(sink, value)?;
+            let rest = append_counted(sink, value)?;
             Ok(tag.wrapping_add(rest))
         }
     }
