@@ -13,6 +13,3 @@ mod values;
 pub use edit_list::Edits;
 pub use edits::{Edit, Part, Place, Spot};
 pub use scripts::read_edits;
-
-#[cfg(test)]
-mod tests;

@@ -9,6 +9,3 @@ mod texts;
 
 pub use parts::{as_items, as_str, as_u64, get, has_only, is_number};
 pub use texts::{TextEnd, parse};
-
-#[cfg(test)]
-mod tests;

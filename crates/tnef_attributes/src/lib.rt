@@ -13,6 +13,3 @@ pub use attributes::{Attribute, Attributes};
 pub use legacy::legacy_prop;
 pub use sums::sum16;
 pub use writing::{attribute_head, write_attribute};
-
-#[cfg(test)]
-mod tests;

@@ -13,6 +13,3 @@ mod whole;
 
 pub use held::Held;
 pub use whole::read_tnef;
-
-#[cfg(test)]
-mod reading_tests;

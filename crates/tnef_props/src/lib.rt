@@ -21,6 +21,3 @@ pub use object::{Object, ReadList};
 pub use object_places::object_place;
 pub use ranges::{append_range, range_sum, write_range};
 pub use sizes::list_size;
-
-#[cfg(test)]
-mod tests;

@@ -12,6 +12,3 @@ mod write_objects;
 mod write_sizes;
 
 pub use plan::TnefPlan;
-
-#[cfg(test)]
-mod writing_tests;

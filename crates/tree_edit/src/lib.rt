@@ -13,6 +13,3 @@ mod whole;
 
 pub use ends::{EditEnd, EditFault, EditWhy};
 pub use whole::edited;
-
-#[cfg(test)]
-mod tests;

@@ -19,6 +19,3 @@ mod siblings;
 
 pub use read_ends::{JsonEnd, JsonFault, Shape};
 pub use read_trees::tree_of;
-
-#[cfg(test)]
-mod tests;

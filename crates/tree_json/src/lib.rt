@@ -9,6 +9,3 @@ mod write_stores;
 mod write_texts;
 
 pub use write_messages::json_of;
-
-#[cfg(test)]
-mod tests;

@@ -8,6 +8,3 @@ mod sorted;
 mod whole;
 
 pub use whole::sample;
-
-#[cfg(test)]
-mod tests;

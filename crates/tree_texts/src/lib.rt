@@ -15,6 +15,3 @@ pub use check::{CheckText, TreeCarrier, write_check, write_counts};
 pub use lines::{write_count, write_counted, write_size};
 pub use numbers::write_slashed;
 pub use show::{ShowText, write_show};
-
-#[cfg(test)]
-mod tests;

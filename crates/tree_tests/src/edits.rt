@@ -1,10 +1,10 @@
-use crate::{EditEnd, EditFault, EditWhy, edited};
 use edit_words::{Edits, read_edits};
 use msg_tree::{Attachment, Attachments, Body, Message, Recipients, Tree, same};
 use prop_names::Key;
 use prop_values::{InsertEnd, Kind, Prop, Props, Value};
 use std::alloc::Global;
 use std::test::*;
+use tree_edit::{EditEnd, EditFault, EditWhy, edited};
 
 /// The priority of a message, and that of the one message in it, if there is one.
 type Shape = (u32, Option<u32>);

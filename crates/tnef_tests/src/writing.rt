@@ -1,4 +1,3 @@
-use crate::plan::TnefPlan;
 use carrier_io::MemorySink;
 use msg_tree::{Attachment, Attachments, Body, Message, Recipients, Store, Tree, fits_tnef, names};
 use prop_names::Key;
@@ -6,6 +5,7 @@ use prop_values::{Kind, Prop, Props, Value};
 use std::alloc::Global;
 use std::test::*;
 use tnef_attributes::sum16;
+use tnef_writer::TnefPlan;
 
 /// A stream with the code page 1252 and one property, id 0017 and value 2.
 const ONE_PROPERTY: [u8; 63] = [

@@ -1,8 +1,8 @@
-use crate::Shape::{self, Deep, Digits, Form, Kind, NotJson, Order, Range};
-use crate::{JsonEnd, JsonFault, tree_of};
 use msg_tree::{depth, same};
 use std::alloc::{AllocError, Global};
 use std::test::*;
+use tree_from_json::Shape::{self, Deep, Digits, Form, Kind, NotJson, Order, Range};
+use tree_from_json::{JsonEnd, JsonFault, tree_of};
 use tree_json::json_of;
 
 /// A message with properties, a recipient, a message and a store.

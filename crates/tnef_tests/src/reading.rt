@@ -1,11 +1,10 @@
-use crate::held::Held;
-use crate::whole::read_tnef;
 use carrier_io::{Fault, Reason, Stop, le16, le32};
 use msg_tree::depth;
 use prop_names::Key;
 use prop_values::{Kind, Props, Value};
 use std::test::*;
 use tnef_attributes::{attribute_head, sum16};
+use tnef_message::{Held, read_tnef};
 
 /// A signature, a key, the version and the code page 1252.
 const FRONT: [u8; 40] = [

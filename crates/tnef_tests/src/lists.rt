@@ -1,8 +1,10 @@
-use crate::{ReadList, append_range, list_size, object_place, range_sum, read_list, write_range};
 use carrier_io::{Blob, Fault, Holds, MemorySink, PassedList, Reason, Stop};
 use prop_names::{Key, Name, NameSet};
 use prop_values::{Kind, Part, Prop, Props, Value};
 use std::test::*;
+use tnef_props::{
+    ReadList, append_range, list_size, object_place, range_sum, read_list, write_range,
+};
 
 /// A list of one MultipleString, id 1234: `A` and the empty text, each with its null.
 const TWO_TEXTS: [u8; 28] = [

@@ -1,6 +1,6 @@
-use crate::sample;
 use msg_tree::{Counts, counts, names};
 use std::test::*;
+use tree_samples::sample;
 
 #[test]
 fn one_of_each(rt: HostRuntime) -> Result<(), Fail> {

@@ -1,5 +1,5 @@
-use crate::{TextEnd, as_items, as_str, as_u64, get, has_only, is_number, parse};
 use json::Scratch;
+use json_values::{TextEnd, as_items, as_str, as_u64, get, has_only, is_number, parse};
 use std::test::*;
 
 #[test]

@@ -1,10 +1,10 @@
-use crate::json_of;
 use carrier_io::Units;
 use msg_tree::{Attachment, Attachments, Body, Member, Message, Recipients, Store, Tree};
 use prop_names::{Guid, Key, Name};
 use prop_values::{InsertEnd, Kind, Prop, Props, Value};
 use std::alloc::Global;
 use std::test::*;
+use tree_json::json_of;
 
 const SET: Guid = Guid([0x62; 16]);
 

@@ -1,4 +1,4 @@
-use crate::read_edits;
+use edit_words::read_edits;
 use std::test::*;
 
 /// The key of a name by a number.

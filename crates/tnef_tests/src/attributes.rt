@@ -1,8 +1,8 @@
-use crate::{Attribute, Attributes, legacy_prop, sum16, write_attribute};
 use carrier_io::MemorySink;
 use prop_names::Key;
 use prop_values::{Prop, Value};
 use std::test::*;
+use tnef_attributes::{Attribute, Attributes, legacy_prop, sum16, write_attribute};
 
 /// A signature, a key, and one attribute of four bytes.
 const STREAM: [u8; 21] = [

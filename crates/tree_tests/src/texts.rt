@@ -2,7 +2,6 @@ ghost use Rattle.std.specs.Prelude.{◌<◌, length};
 ghost use Rattle.carrier_model.specs.Values.{IsValue};
 ghost use Rattle.prop_values.specs.Meaning.{value_of};
 
-use crate::{CheckText, ShowText, TreeCarrier, write_count, write_size};
 use carrier_io::{
     Blob, MemorySink, NoMemory, Numbers, Passed, PassedList, Writing, write_gathered,
 };
@@ -11,6 +10,7 @@ use prop_names::Key;
 use prop_values::{InsertEnd, Kind, Prop, Props, Value};
 use std::alloc::Global;
 use std::test::*;
+use tree_texts::{CheckText, ShowText, TreeCarrier, write_count, write_size};
 
 /// Bytes in two borrowed pieces.
 #[derive(Clone, Copy)]
