@@ -38,6 +38,3 @@ pub use sure::{SureSink, SureSource};
 pub use units::Units;
 pub use walk::Walk;
 pub use whole::{read_all, write_parts, write_pieces};
-
-#[cfg(test)]
-mod tests;

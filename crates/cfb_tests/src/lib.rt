@@ -1,4 +1,4 @@
-//! Tests of compound files, read and written: the crates that they are of are below, and have none of their own.
+//! Tests of compound files and stores, read and written: the crates that they are of are below, and have none of their own.
 #![tactic(auto)]
 
 #[cfg(test)]
@@ -7,5 +7,9 @@ mod directory;
 mod files;
 #[cfg(test)]
 mod sectors;
+#[cfg(test)]
+mod store_plans;
+#[cfg(test)]
+mod stores;
 #[cfg(test)]
 mod writer;

@@ -17,6 +17,3 @@ mod writing;
 pub use laws::envelopes_are_exact;
 pub use reading::payload;
 pub use writing::{Wrapped, envelope_size, write_envelope};
-
-#[cfg(test)]
-mod tests;

@@ -8,8 +8,3 @@ mod writing;
 pub use reading::read_store;
 pub use whole::read_store_file;
 pub use writing::{add_store, store_plan};
-
-#[cfg(test)]
-mod tests;
-#[cfg(test)]
-mod writing_tests;

@@ -6,6 +6,3 @@ mod status;
 
 pub use report::write_report;
 pub use status::Status;
-
-#[cfg(test)]
-mod tests;

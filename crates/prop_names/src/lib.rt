@@ -16,6 +16,3 @@ pub use labels::set_label;
 pub use name_set::NameSet;
 pub use names::{Guid, Name, TextName};
 pub use number_texts::write_decimal;
-
-#[cfg(test)]
-mod tests;

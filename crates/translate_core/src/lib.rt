@@ -26,6 +26,3 @@ pub use laws::{
 pub use steps::trip;
 pub use translating::translate;
 pub use trips::{Trip, TripEnd};
-
-#[cfg(test)]
-mod tests;

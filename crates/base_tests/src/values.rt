@@ -1,11 +1,11 @@
 ghost use Rattle.std.specs.Prelude.{◌<◌, ◌^◌, length};
 
-use crate::compare::{same_prop, same_props};
-use crate::{
-    Arrivals, Guids, InsertEnd, Kind, Parts, Prop, Props, SettleEnd, Shape, Value, kind_of,
-};
 use carrier_io::{Blob, same_bytes};
 use prop_names::{Guid, Key};
+use prop_values::compare::{same_prop, same_props};
+use prop_values::{
+    Arrivals, Guids, InsertEnd, Kind, Parts, Prop, Props, SettleEnd, Shape, Value, kind_of,
+};
 use std::alloc::Global;
 use std::cmp::Ordering;
 use std::process::Abort;

@@ -1,8 +1,8 @@
-use crate::{
+use carrier_io::{MemorySink, Units};
+use prop_names::{
     Guid, Key, Name, NameSet, lower_digits2, print_key, set_label, upper_digits2, upper_digits16,
     write_decimal,
 };
-use carrier_io::{MemorySink, Units};
 use std::alloc::Global;
 use std::cmp::Ordering;
 use std::test::*;

@@ -1,5 +1,5 @@
-use crate::trip;
 use std::test::*;
+use translate_core::trip;
 
 /// A stream with the code page 1252 and one property, id 0017 and value 2.
 const ONE_PROPERTY: [u8; 63] = [

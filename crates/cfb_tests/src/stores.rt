@@ -1,8 +1,8 @@
-use crate::{read_store, read_store_file};
 use carrier_io::{Blob, Fault, Reason, Stop, Walk};
 use cfb_directory::open_files;
 use cfb_sectors::StreamView;
 use msg_tree::{Member, Store};
+use ole_stores::{read_store, read_store_file};
 use std::alloc::{AllocError, Global};
 use std::test::*;
 

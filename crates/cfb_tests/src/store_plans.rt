@@ -1,6 +1,6 @@
-use crate::writing::store_plan;
 use carrier_io::MemorySink;
 use msg_tree::{Member, Store};
+use ole_stores::store_plan;
 use std::test::*;
 
 /// A class of which no two bytes are equal.

@@ -4,11 +4,11 @@ ghost use Rattle.carrier_model.specs.Keys.{IsName};
 ghost use Rattle.msg_tree.specs.Whole.{plain_of};
 ghost use Rattle.prop_names.specs.Meaning.{name_of};
 
-use crate::{
+use carrier_io::{Blob, NoMemory, PassedList, Units};
+use msg_tree::{
     Accepted, Attachment, Attachments, Body, Counts, Limit, Member, MemberEnd, Message, Recipients,
     Store, Tree, copy_owned, counts, depth, fits_msg, fits_tnef, names, same,
 };
-use carrier_io::{Blob, NoMemory, PassedList, Units};
 use prop_names::{Guid, Key, Name, NameSet};
 use prop_values::{Kind, Prop, Props, Value};
 use std::alloc::Global;

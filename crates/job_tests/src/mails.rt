@@ -1,7 +1,7 @@
 ghost use Rattle.std.specs.Prelude.{◌<◌};
 
-use crate::*;
 use carrier_io::{Fault, MemorySink, Reason, Stop, write_gathered};
+use mime_envelope::*;
 use std::test::*;
 
 const TNEF: [u8; 6] = [0x78, 0x9f, 0x3e, 0x22, 0x01, 0x00];

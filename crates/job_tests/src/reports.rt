@@ -1,6 +1,6 @@
-use crate::{Status, write_report};
 use carrier_io::{Fault, MemorySink, Reason};
 use msg_tree::Limit;
+use outlook_status::{Status, write_report};
 use std::test::*;
 use tree_edit::{EditFault, EditWhy};
 use tree_text8::{Unmapped, Why};

@@ -1,0 +1,10 @@
+//! Tests of mails, of trips through all forms and of the report: the crates that they are of are below, and have none of
+//! their own.
+#![tactic(auto)]
+
+#[cfg(test)]
+mod mails;
+#[cfg(test)]
+mod reports;
+#[cfg(test)]
+mod trips;
