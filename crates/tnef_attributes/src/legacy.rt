@@ -8,6 +8,7 @@ ghost use Rattle.tnef_attributes.specs.Rules.{plain_rule, plain_value, rule_amon
 
 use crate::attributes::Attribute;
 use crate::classes::class_of;
+use crate::ids;
 use crate::moments::moment;
 use carrier_io::u32_at;
 use prop_names::Key;
@@ -30,20 +31,20 @@ fn rule_for(attribute: u32) -> Option<(u16, Rule)>
     ensures unnamed { IfSome result (λ r. r.0 < 0x8000) }
 {
     match attribute {
-        0x0006_9007 => Some((0x3ffd, Rule::Page)),
-        0x0007_8008 => Some((0x001a, Rule::Class)),
-        0x0001_8004 => Some((0x0037, Rule::Text)),
-        0x0002_800c => Some((0x1000, Rule::Text)),
-        0x0003_8005 => Some((0x0039, Rule::Date)),
-        0x0003_8006 => Some((0x0e06, Rule::Date)),
-        0x0003_8020 => Some((0x3008, Rule::Date)),
-        0x0006_9002 => Some((0x370b, Rule::Position)),
-        0x0006_800f => Some((0x3701, Rule::Binary)),
-        0x0001_8010 => Some((0x3704, Rule::Text)),
-        0x0006_8011 => Some((0x3709, Rule::Binary)),
-        0x0006_9001 => Some((0x370c, Rule::Text)),
-        0x0003_8012 => Some((0x3007, Rule::Date)),
-        0x0003_8013 => Some((0x3008, Rule::Date)),
+        ids::CODE_PAGE => Some((0x3ffd, Rule::Page)),
+        ids::MESSAGE_CLASS => Some((0x001a, Rule::Class)),
+        ids::SUBJECT => Some((0x0037, Rule::Text)),
+        ids::BODY => Some((0x1000, Rule::Text)),
+        ids::DATE_SENT => Some((0x0039, Rule::Date)),
+        ids::DATE_RECEIVED => Some((0x0e06, Rule::Date)),
+        ids::DATE_MODIFIED => Some((0x3008, Rule::Date)),
+        ids::RENDERING => Some((0x370b, Rule::Position)),
+        ids::ATTACH_DATA => Some((0x3701, Rule::Binary)),
+        ids::ATTACH_TITLE => Some((0x3704, Rule::Text)),
+        ids::ATTACH_META_FILE => Some((0x3709, Rule::Binary)),
+        ids::ATTACH_TRANSPORT_FILENAME => Some((0x370c, Rule::Text)),
+        ids::ATTACH_CREATE_DATE => Some((0x3007, Rule::Date)),
+        ids::ATTACH_MODIFY_DATE => Some((0x3008, Rule::Date)),
         _ => None,
     }
 }

@@ -3,6 +3,7 @@
 
 mod attributes;
 mod classes;
+pub mod ids;
 mod legacy;
 mod moments;
 mod reading;

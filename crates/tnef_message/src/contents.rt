@@ -10,12 +10,12 @@ ghost use Rattle.tnef_message.specs.Contents.{GivesPart, FailsPart};
 
 use crate::gifts::Gift;
 use crate::held::Held;
-use crate::roles::{MESSAGE_LIST, RECIPIENT_TABLE, Role, role_of};
+use crate::roles::{Role, role_of};
 use carrier_io::{Fault, Passed, PassedList, Reason, Stop, u32_at};
 use msg_tree::Recipients;
 use prop_values::Part;
 use std::alloc::Global;
-use tnef_attributes::Attribute;
+use tnef_attributes::{Attribute, ids};
 use tnef_props::read_list;
 
 /// The lists of the recipients: a count, and a list for each.
@@ -59,11 +59,11 @@ pub fn plain_gift<'a>(
     ensures fault { IfErr result (OnFault (λ g. (levels : ℕ) → FailsPart levels (view attribute.now) g)) }
 {
     let at = attribute.offset + 9;
-    if attribute.id == MESSAGE_LIST {
+    if attribute.id == ids::MESSAGE_PROPS {
         let list = read_list(alloc, attribute.bytes, 0, at, Part::Top, passed)?;
         return Ok(Gift::MessageList(list.props));
     }
-    if attribute.id == RECIPIENT_TABLE {
+    if attribute.id == ids::RECIPIENTS {
         return Ok(Gift::RecipientTable(recipients_in(alloc, attribute.bytes, at, passed)?));
     }
     match role_of(attribute.id) {

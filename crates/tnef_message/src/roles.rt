@@ -3,17 +3,7 @@ ghost use Rattle.std.specs.Prelude.{◌≡◌};
 ghost use Rattle.tnef_model.specs.LegacyAttributes as plain;
 ghost use Rattle.tnef_message.specs.Roles.{IsRole};
 
-/// attMsgProps: the list of a message.
-pub const MESSAGE_LIST: u32 = 0x0006_9003;
-
-/// attRecipTable: the lists of the recipients.
-pub const RECIPIENT_TABLE: u32 = 0x0006_9004;
-
-/// attAttachRendData: an attachment begins.
-pub const NEW_ATTACHMENT: u32 = 0x0006_9002;
-
-/// attAttachment: the list of an attachment.
-pub const ATTACHMENT_LIST: u32 = 0x0006_9005;
+use tnef_attributes::ids;
 
 /// What an attribute belongs to.
 #[derive(Clone, Copy)]
@@ -33,16 +23,16 @@ fn is_of_message(id: u32) -> bool
 {
     matches!(
         id,
-        0x0008_9006
-            | 0x0006_9003
-            | 0x0006_9004
-            | 0x0006_9007
-            | 0x0007_8008
-            | 0x0001_8004
-            | 0x0002_800c
-            | 0x0003_8005
-            | 0x0003_8006
-            | 0x0003_8020
+        ids::VERSION
+            | ids::MESSAGE_PROPS
+            | ids::RECIPIENTS
+            | ids::CODE_PAGE
+            | ids::MESSAGE_CLASS
+            | ids::SUBJECT
+            | ids::BODY
+            | ids::DATE_SENT
+            | ids::DATE_RECEIVED
+            | ids::DATE_MODIFIED
     )
 }
 
@@ -51,14 +41,14 @@ fn is_of_attachment(id: u32) -> bool
 {
     matches!(
         id,
-        0x0006_9005
-            | 0x0006_9002
-            | 0x0006_800f
-            | 0x0001_8010
-            | 0x0006_8011
-            | 0x0006_9001
-            | 0x0003_8012
-            | 0x0003_8013
+        ids::ATTACHMENT
+            | ids::RENDERING
+            | ids::ATTACH_DATA
+            | ids::ATTACH_TITLE
+            | ids::ATTACH_META_FILE
+            | ids::ATTACH_TRANSPORT_FILENAME
+            | ids::ATTACH_CREATE_DATE
+            | ids::ATTACH_MODIFY_DATE
     )
 }
 
@@ -68,7 +58,7 @@ pub fn role_of(id: u32) -> Role
 {
     if is_of_message(id) {
         Role::Message
-    } else if id == NEW_ATTACHMENT {
+    } else if id == ids::RENDERING {
         Role::NewAttachment
     } else if is_of_attachment(id) {
         Role::Attachment

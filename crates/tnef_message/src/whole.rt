@@ -14,12 +14,11 @@ use crate::gifts::Gift;
 use crate::held::Held;
 use crate::interfaces::{Interface, interface_of};
 use crate::objects::store_in;
-use crate::roles::ATTACHMENT_LIST;
 use carrier_io::{Fault, PassedList, Reason, Stop};
 use msg_tree::{Accepted, Body, Message, Tree};
 use prop_values::Part;
 use std::alloc::Global;
-use tnef_attributes::{Attribute, Attributes};
+use tnef_attributes::{Attribute, Attributes, ids};
 use tnef_props::{Object, ReadList, read_list};
 
 /// How many levels of messages may lie in a message.
@@ -63,7 +62,7 @@ fn gift_of<'a>(
     ensures found { IfOk result (GivesPart levels (view attribute.now) passed.old passed.new) }
     ensures fault { IfErr result (OnFault (FailsPart levels (view attribute.now))) }
 {
-    if attribute.id == ATTACHMENT_LIST {
+    if attribute.id == ids::ATTACHMENT {
         attachment_gift(alloc, attribute, levels, passed)
     } else {
         plain_gift(alloc, attribute, passed)

@@ -1,6 +1,6 @@
 //! The canonical stream of a message, written as it is made.
 ghost use Rattle.std.specs.Prelude.{◌≡◌, ◌≤◌, ◌<◌, ◌^◌, ◌++◌, ◌+◌, ℕ, All, length};
-ghost use Rattle.tnef_model.specs.LegacyAttributes as ids;
+ghost use Rattle.tnef_model.specs.LegacyAttributes as plain_ids;
 ghost use Rattle.tnef_model.specs.TnefCanonical as canon;
 ghost use Rattle.carrier_model.specs.Tree as plain;
 ghost use Rattle.msg_tree.specs.Meaning.{tree_of, attached_of};
@@ -21,23 +21,8 @@ use cfb_writer::Plan;
 use msg_tree::{Attachment, Body, Message, Recipients};
 use prop_names::NameSet;
 use prop_values::{Prop, Props, Value};
-use tnef_attributes::attribute_head;
+use tnef_attributes::{attribute_head, ids};
 use tnef_props::{append_range, list_size, object_place};
-
-/// attOemCodepage.
-const CODE_PAGE: u32 = 0x0006_9007;
-
-/// attMsgProps.
-const MESSAGE_PROPS: u32 = 0x0006_9003;
-
-/// attRecipTable.
-const RECIPIENTS: u32 = 0x0006_9004;
-
-/// attAttachRendData, which begins an attachment.
-const RENDERING: u32 = 0x0006_9002;
-
-/// attAttachment.
-const ATTACHMENT: u32 = 0x0006_9005;
 
 /// The code page that is written where no property gives one.
 const PLAIN_PAGE: u32 = 1252;
@@ -100,7 +85,7 @@ fn append_page<B: Blob, W: Sink>(sink: &mut W, props: &Props<B>) -> Result<u16, 
     append_attribute(
         sink,
         1,
-        CODE_PAGE,
+        ids::CODE_PAGE,
         &[page[0], page[1], page[2], page[3], 0, 0, 0, 0],
     )
 }
@@ -113,7 +98,7 @@ fn append_rendering<B: Blob, W: Sink>(sink: &mut W, props: &Props<B>) -> Result<
     append_attribute(
         sink,
         2,
-        RENDERING,
+        ids::RENDERING,
         &[
             1, 0, place[0], place[1], place[2], place[3], 0, 0, 0, 0, 0, 0, 0, 0,
         ],
@@ -134,7 +119,13 @@ fn append_recipients<B: Blob, W: Sink>(
     if recipients.len() == 0 {
         return Ok(0);
     }
-    append_filled(sink, names, 1, RECIPIENTS, &ListContent::Table(recipients))
+    append_filled(
+        sink,
+        names,
+        1,
+        ids::RECIPIENTS,
+        &ListContent::Table(recipients),
+    )
 }
 
 /// Appends the front and the code page.
@@ -160,7 +151,13 @@ fn append_own_lists<B: Blob, W: Sink>(
     ensures { Sums (W.held sink.old) (W.held sink.new) (W.faults sink.old) (W.faults sink.new) result (canon.recipients_attribute names.now recipients.now ++ canon.props_attribute names.now props.now) }
 {
     let table = append_recipients(sink, names, recipients)?;
-    let list = append_filled(sink, names, 1, MESSAGE_PROPS, &ListContent::ListOf(props))?;
+    let list = append_filled(
+        sink,
+        names,
+        1,
+        ids::MESSAGE_PROPS,
+        &ListContent::ListOf(props),
+    )?;
     Ok(table.wrapping_add(list))
 }
 
@@ -239,11 +236,11 @@ fn append_attached<B: Blob, W: Sink>(
     requires stores { stores.now ≡ files_of (stores_at (attached_of B.bytes attachment.now)) }
     requires known { Includes names.now (plain.names_at (attached_of B.bytes attachment.now)) }
     requires few { length names.now ≤ 32000 }
-    ensures { Sums (W.held sink.old) (W.held sink.new) (W.faults sink.old) (W.faults sink.new) result (canon.attribute 2 ids.ATTACHMENT (attached_list names.now (attached_of B.bytes attachment.now))) }
+    ensures { Sums (W.held sink.old) (W.held sink.new) (W.faults sink.old) (W.faults sink.new) result (canon.attribute 2 plain_ids.ATTACHMENT (attached_list names.now (attached_of B.bytes attachment.now))) }
 {
     let props = &attachment.props;
     match &attachment.body {
-        Body::Plain => append_filled(sink, names, 2, ATTACHMENT, &ListContent::ListOf(props)),
+        Body::Plain => append_filled(sink, names, 2, ids::ATTACHMENT, &ListContent::ListOf(props)),
         Body::Message(inner) => {
             let size = message_size(inner, stores);
             let message = Carried::Message {
@@ -269,10 +266,10 @@ fn append_carrying<B: Blob, W: Sink>(
     requires own { HasNames names.now props.now }
     requires carried { IsCarried B.bytes names.now carried.now }
     requires few { length names.now ≤ 32000 }
-    ensures { Sums (W.held sink.old) (W.held sink.new) (W.faults sink.old) (W.faults sink.new) result (canon.attribute 2 ids.ATTACHMENT (carried_list names.now props.now (object_value B.bytes names.now carried.now))) }
+    ensures { Sums (W.held sink.old) (W.held sink.new) (W.faults sink.old) (W.faults sink.new) result (canon.attribute 2 plain_ids.ATTACHMENT (carried_list names.now props.now (object_value B.bytes names.now carried.now))) }
 {
     let size = list_size(props, Some(carried.size()));
-    let head = append(sink, &attribute_head(2, ATTACHMENT, size as u32))?;
+    let head = append(sink, &attribute_head(2, ids::ATTACHMENT, size as u32))?;
     let list = append_split(sink, names, props, carried)?;
     let sum = append(sink, &le16(list))?;
     Ok(head.wrapping_add(list.wrapping_add(sum)))

@@ -20,14 +20,14 @@ returns-in_err-list-clause-fault c =
     let p = err_from_is_err_and c.from_residual.result c.from_residual.ensures.1 in
     let a = view c.args.attribute.now in
     rw (p.1, p.2) (on_fault (FaultOnly (Means (prop_list false) (a.offset + 9 + 0) a.bytes) ((prop_list false).fails (a.offset + 9 + 0) a.bytes)) (λ g. (levels : ℕ) → FailsPart levels a g)
-    (λ g f levels. message_fails (objects_at levels) a g c.if-attribute-eq-MESSAGE_LIST.true f.is_first) c.in_err-list.field-0.0 c.in_err-list.ensures.fault)
+    (λ g f levels. message_fails (objects_at levels) a g c.if-attribute-eq-MESSAGE_PROPS.true f.is_first) c.in_err-list.field-0.0 c.in_err-list.ensures.fault)
 
-pub returns-then-attribute-eq-MESSAGE_LIST-clause-found :
-    goal.returns-then-attribute-eq-MESSAGE_LIST-clause-found
-returns-then-attribute-eq-MESSAGE_LIST-clause-found c = λ levels.
+pub returns-then-attribute-eq-MESSAGE_PROPS-clause-found :
+    goal.returns-then-attribute-eq-MESSAGE_PROPS-clause-found
+returns-then-attribute-eq-MESSAGE_PROPS-clause-found c = λ levels.
     let a = view c.args.attribute.now in
     let x = c.in_ok-list.ensures.found in
-    let e = c.if-attribute-eq-MESSAGE_LIST.true in
+    let e = c.if-attribute-eq-MESSAGE_PROPS.true in
     record {
       given_part = part (plain.message_list c.in_ok-list.list.props) x.more;
       means = message_means (objects_at levels) a (list_seen c.in_ok-list.list x.more) _ _ e x.spans;
@@ -41,14 +41,14 @@ returns-in_err-recipients_in-clause-fault c =
     let p = err_from_is_err_and c.from_residual-in_err-recipients_in.result c.from_residual-in_err-recipients_in.ensures.1 in
     let a = view c.args.attribute.now in
     rw (p.1, p.2) (on_fault (recipient_lists.fails (a.offset + 9) a.bytes) (λ g. (levels : ℕ) → FailsPart levels a g)
-    (λ g f levels. recipients_fail (objects_at levels) a g c.if-attribute-eq-RECIPIENT_TABLE.true f) c.in_err-recipients_in.field-0.0 c.in_err-recipients_in.ensures.fault)
+    (λ g f levels. recipients_fail (objects_at levels) a g c.if-attribute-eq-RECIPIENTS.true f) c.in_err-recipients_in.field-0.0 c.in_err-recipients_in.ensures.fault)
 
-pub returns-then-attribute-eq-RECIPIENT_TABLE-clause-found :
-    goal.returns-then-attribute-eq-RECIPIENT_TABLE-clause-found
-returns-then-attribute-eq-RECIPIENT_TABLE-clause-found c = λ levels.
+pub returns-then-attribute-eq-RECIPIENTS-clause-found :
+    goal.returns-then-attribute-eq-RECIPIENTS-clause-found
+returns-then-attribute-eq-RECIPIENTS-clause-found c = λ levels.
     let a = view c.args.attribute.now in
     let x = c.in_ok-recipients_in.ensures.found in
-    let e = c.if-attribute-eq-RECIPIENT_TABLE.true in
+    let e = c.if-attribute-eq-RECIPIENTS.true in
     record {
       given_part = _;
       means = recipients_mean (objects_at levels) a x.0 e x.1;
