@@ -4,9 +4,6 @@ use Rattle.std.specs.Prelude.{ℕ}
 abbrev pub NOT_A_CARRIER : ℕ
 NOT_A_CARRIER = 1
 
-abbrev pub NOT_BUILT : ℕ
-NOT_BUILT = 2
-
 abbrev pub INPUT_TOO_LONG : ℕ
 INPUT_TOO_LONG = 3
 
