@@ -14,8 +14,3 @@ mod texts;
 mod writing;
 
 pub use map::NameMap;
-
-#[cfg(test)]
-mod tests;
-#[cfg(test)]
-mod writing_tests;

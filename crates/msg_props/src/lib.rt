@@ -18,8 +18,3 @@ mod writing;
 
 pub use reading::{Section, read_props};
 pub use writing::{Head, add_props};
-
-#[cfg(test)]
-mod reading_tests;
-#[cfg(test)]
-mod writing_tests;

@@ -8,6 +8,3 @@ mod writing;
 
 pub use reading::read_msg;
 pub use writing::files_of;
-
-#[cfg(test)]
-mod tests;

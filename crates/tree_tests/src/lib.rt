@@ -3,6 +3,8 @@
 #![tactic(auto)]
 
 #[cfg(test)]
+mod conversions;
+#[cfg(test)]
 mod edits;
 #[cfg(test)]
 mod from_json;

@@ -13,6 +13,3 @@ mod values;
 pub use conversion::unicode_of;
 pub use ends::{TextEnd, Unmapped, Why};
 pub use pages::{Page, page_of};
-
-#[cfg(test)]
-mod tests;
