@@ -1,4 +1,4 @@
-//! The ids of attributes, by the standard's names. [MS-OXTNEF 2.1.3.2]
+//! The ids of attributes, by the standard's names. [MS-OXTNEF 2.1.3]
 
 /// attTnefVersion.
 pub const VERSION: u32 = 0x0008_9006;
