@@ -21,7 +21,7 @@ fn counts(alloc: Global, name: &'static str) -> Result<(usize, usize), Stop> {
     let list = "__properties_version1.0";
     let names = [(1152, list), (1280, name), (1408, list)];
     let mut file = file_of(alloc, &STORAGE, &names)?;
-    let size = 2 * (name.len() as u32 & 0xFF) + 2;
+    let size = 2 * (name.len() % 256) as u32 + 2;
     put(&mut file, 1344, &[0x0101_0000 | size]);
     let files = opened(alloc, &file)?;
     let accepted = read_msg(alloc, &files)?;

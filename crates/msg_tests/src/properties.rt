@@ -1,5 +1,6 @@
 //! Property lists, read and written.
-ghost use Rattle.std.specs.Prelude.{[], IfOk};
+ghost use Rattle.std.specs.Prelude.{List, IfOk};
+ghost use Rattle.carrier_model.specs.Keys.{Name};
 ghost use Rattle.msg_model.specs.ReadBack.{NamesAmong};
 
 use crate::files::{END, FREE, Held, Words, file_of, is_stream, opened, put};
@@ -78,7 +79,7 @@ const LETTER: &[u8] = &[0x41, 0];
 
 /// A number, a text and the same text as the one element of a list.
 fn list(alloc: Global) -> Result<Props<&'static [u8]>, Fail>
-    ensures { IfOk result (λ props. NamesAmong [] props) }
+    ensures { IfOk result (λ props. (names : List Name) → NamesAmong names props) }
 {
     let mut props = Props::new(alloc);
     let (kind, bits) = (Kind::Integer32, 5);
