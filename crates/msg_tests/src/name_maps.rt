@@ -182,28 +182,35 @@ fn streams_of_a_number(rt: HostRuntime) -> Result<(), Fail> {
 }
 
 /// A text of one letter of the public strings.
-fn one_letter(alloc: Global, letter: u8) -> Result<Name, NoMemory>
+fn one_letter(alloc: Global, letter: u16) -> Result<Name, NoMemory>
     ensures { IfOk result (λ name. IsName (name_of name)) }
 {
     let mut units = Units::new(alloc);
-    units.push(u16::from(letter))?;
+    units.push(letter)?;
     Name::of_text(alloc, PUBLIC, units)
 }
 
 /// A letter, and the hash stream of a text of this letter, with its sum.
-const HASHED: [(u8, Stream<'static>); 2] = [
+const HASHED: [(u16, Stream<'static>); 3] = [
     (
-        0x41,
+        0x0041,
         (
             "__substg1.0_10060102",
             &[0x44, 0x7E, 0x62, 0xE9, 5, 0, 0, 0],
         ),
     ),
     (
-        0x80,
+        0x0080,
         (
             "__substg1.0_10140102",
             &[0x4B, 0x98, 0x83, 0x3B, 5, 0, 0, 0],
+        ),
+    ),
+    (
+        0x8000,
+        (
+            "__substg1.0_10060102",
+            &[0x20, 0x83, 0xB8, 0xED, 5, 0, 0, 0],
         ),
     ),
 ];
@@ -212,7 +219,8 @@ const HASHED: [(u8, Stream<'static>); 2] = [
 fn streams_of_texts(rt: HostRuntime) -> Result<(), Fail> {
     for (letter, hashed) in HASHED {
         let map = map_of(rt.alloc(), &one_letter(rt.alloc(), letter)?)?;
-        let texts = [2, 0, 0, 0, letter, 0, 0, 0];
+        let [low, high] = letter.to_le_bytes();
+        let texts = [2, 0, 0, 0, low, high, 0, 0];
         let streams: [Stream<'_>; 4] = [
             ("__substg1.0_00020102", &[]),
             ("__substg1.0_00030102", &[0, 0, 0, 0, 5, 0, 0, 0]),
