@@ -1,6 +1,6 @@
 //! What the storages and streams of a file are, and what a file is refused for.
 use crate::files::{END, FOUR, FREE, Layout, Row, THREE, file_of, put, put_rows, put_word};
-use carrier_io::{Blob, Fault, Reason, Stop, Walk};
+use carrier_io::{Blob, Reason, Stop, Walk};
 use cfb_directory::{Files, open_files};
 use std::alloc::{AllocError, Global};
 use std::test::*;
@@ -15,13 +15,13 @@ fn opened<'f>(alloc: Global, bytes: &'f [u8], walk: &mut Walk) -> Result<Files<'
     Ok(open_files(alloc, bytes, walk)?)
 }
 
-/// The fault of the first so many bytes of a layout's file, after changes.
+/// What the first so many bytes of a layout's file are refused for, after changes.
 fn refusal(
     alloc: Global,
     layout: &Layout,
     changes: &[Row<'_>],
     len: usize,
-) -> Result<Option<Fault>, Fail> {
+) -> Result<Option<(Reason, u64)>, Fail> {
     let file = file_of(alloc, layout, changes)?;
     let bytes = file.get(..len).ok_or("too short")?;
     if bytes.len() > 20_480 {
@@ -29,85 +29,99 @@ fn refusal(
     }
     match open_files(alloc, bytes, &mut Walk::new()) {
         Ok(_) => Ok(None),
-        Err(Stop::Fault(fault)) => Ok(Some(fault)),
+        Err(Stop::Fault(fault)) => Ok(Some((fault.reason, fault.offset))),
         Err(Stop::NoMemory) => Err("memory")?,
     }
 }
 
-#[test]
-fn changes(rt: HostRuntime) -> Result<(), Fail> {
-    let rows = [
-        (1220, 1, Reason::EntryShared, 1220),
-        (1224, 8, Reason::EntryOutOfRange, 1224),
-        (1728, 0x0105_0030, Reason::BadEntryType, 1730),
-        (1564, 0x0033_0030, Reason::DoubleName, 1536),
-        (1728, 0x0102_0003, Reason::BadName, 1728),
-        (24, 0x0005_003E, Reason::BadVersion, 26),
-        (24, 0x0004_003E, Reason::BadHeader, 30),
-        (28, 0x000C_FFFE, Reason::BadHeader, 30),
-        (44, 0, Reason::BadFatCount, 44),
-        (44, 6, Reason::BadFatCount, 44),
-        (76, 5, Reason::SectorOutOfRange, 76),
-        (48, 0, Reason::Shared, 48),
-        (48, END, Reason::ShortChain, 48),
-        (60, 1, Reason::Shared, 60),
-        (1140, 3, Reason::Shared, 1140),
-        (524, 3, Reason::Cycle, 524),
-        (528, 5, Reason::SectorOutOfRange, 528),
-        (1780, 1, Reason::SectorOutOfRange, 1780),
-        (2048, 0, Reason::Cycle, 2048),
-        (1784, 65, Reason::ShortChain, 2048),
-    ];
-    for (at, value, reason, offset) in rows {
-        let fault = refusal(rt.alloc(), &THREE, &[(at, &[value])], 3072)?;
-        assert_eq!(rt; fault, Some(Fault { reason, offset }), "at {at}");
-    }
-    Ok(())
-}
+/// A file: its layout, what was changed in it, how many of its bytes there are, and what it is refused for.
+type Refusal = (
+    &'static Layout,
+    &'static [Row<'static>],
+    usize,
+    Option<(Reason, u64)>,
+);
+
+/// One number that was changed in a whole file of version 3, and what the file is refused for.
+const CHANGES: [(Row<'static>, Reason, u64); 24] = [
+    ((1220, &[1]), Reason::EntryShared, 1220),
+    ((1224, &[8]), Reason::EntryOutOfRange, 1224),
+    ((1728, &[0x0105_0030]), Reason::BadEntryType, 1730),
+    ((1088, &[0x0101_0016]), Reason::BadEntryType, 1090),
+    ((1564, &[0x0033_0030]), Reason::DoubleName, 1536),
+    ((1728, &[0x0102_0003]), Reason::BadName, 1728),
+    ((24, &[0x0005_003E]), Reason::BadVersion, 26),
+    ((24, &[0x0004_003E]), Reason::BadHeader, 30),
+    ((28, &[0x000C_FFFE]), Reason::BadHeader, 30),
+    ((44, &[0]), Reason::BadFatCount, 44),
+    ((44, &[6]), Reason::BadFatCount, 44),
+    ((76, &[5]), Reason::SectorOutOfRange, 76),
+    ((48, &[0]), Reason::Shared, 48),
+    ((48, &[END]), Reason::ShortChain, 48),
+    ((60, &[1]), Reason::Shared, 60),
+    ((1140, &[3]), Reason::Shared, 1140),
+    ((520, &[1]), Reason::Cycle, 520),
+    ((524, &[3]), Reason::Cycle, 524),
+    ((528, &[2]), Reason::Shared, 528),
+    ((528, &[5]), Reason::SectorOutOfRange, 528),
+    ((1780, &[1]), Reason::SectorOutOfRange, 1780),
+    ((2048, &[0]), Reason::Cycle, 2048),
+    ((1784, &[65]), Reason::ShortChain, 2048),
+    ((1144, &[1024]), Reason::ShortChain, 528),
+];
+
+/// Files that were changed in more than one place, cut, or of version 4.
+const OTHERS: [Refusal; 14] = [
+    (
+        &THREE,
+        &[(1396, &[0, 1])],
+        3072,
+        Some((Reason::Shared, 1780)),
+    ),
+    (
+        &THREE,
+        &[(1144, &[48]), (1784, &[64])],
+        3072,
+        Some((Reason::FileTruncated, 1784)),
+    ),
+    (&THREE, &[], 511, Some((Reason::FileTruncated, 511))),
+    (&THREE, &[], 2623, Some((Reason::FileTruncated, 1144))),
+    (&THREE, &[], 2624, None),
+    (&THREE, &[(1788, &[1])], 3072, None),
+    (&FOUR, &[], 20_480, None),
+    (&FOUR, &[(4100, &[1])], 20_480, Some((Reason::Cycle, 4100))),
+    (&FOUR, &[(8956, &[1])], 20_480, Some((Reason::Shared, 8948))),
+    (
+        &FOUR,
+        &[(28, &[0x0009_FFFE])],
+        20_480,
+        Some((Reason::BadHeader, 30)),
+    ),
+    (
+        &FOUR,
+        &[(24, &[0x0005_003E])],
+        20_480,
+        Some((Reason::BadVersion, 26)),
+    ),
+    (&FOUR, &[(32, &[6])], 4096, Some((Reason::BadFatCount, 44))),
+    (&FOUR, &[(32, &[6])], 4000, Some((Reason::BadFatCount, 44))),
+    (
+        &FOUR,
+        &[(32, &[6])],
+        511,
+        Some((Reason::FileTruncated, 511)),
+    ),
+];
 
 #[test]
-fn pairs_and_cuts(rt: HostRuntime) -> Result<(), Fail> {
-    let rows: [(&[Row<'_>], usize, Reason, u64); 4] = [
-        (&[(1396, &[0, 1])], 3072, Reason::Shared, 1780),
-        (
-            &[(1144, &[48]), (1784, &[64])],
-            3072,
-            Reason::FileTruncated,
-            1784,
-        ),
-        (&[], 511, Reason::FileTruncated, 511),
-        (&[], 2623, Reason::FileTruncated, 1144),
-    ];
-    for (changes, len, reason, offset) in rows {
-        let fault = refusal(rt.alloc(), &THREE, changes, len)?;
-        assert_eq!(rt; fault, Some(Fault { reason, offset }), "at {offset}");
+fn refusals(rt: HostRuntime) -> Result<(), Fail> {
+    for (change, reason, offset) in CHANGES {
+        let fault = refusal(rt.alloc(), &THREE, &[change], 3072)?;
+        assert_eq!(rt; fault, Some((reason, offset)));
     }
-    Ok(())
-}
-
-#[test]
-fn versions(rt: HostRuntime) -> Result<(), Fail> {
-    let rows = [
-        (4100, 1, 20_480, Reason::Cycle, 4100),
-        (8956, 1, 20_480, Reason::Shared, 8948),
-        (28, 0x0009_FFFE, 20_480, Reason::BadHeader, 30),
-        (24, 0x0005_003E, 20_480, Reason::BadVersion, 26),
-        (32, 6, 4096, Reason::BadFatCount, 44),
-        (32, 6, 4000, Reason::BadFatCount, 44),
-        (32, 6, 511, Reason::FileTruncated, 511),
-    ];
-    for (at, value, len, reason, offset) in rows {
-        let fault = refusal(rt.alloc(), &FOUR, &[(at, &[value])], len)?;
-        assert_eq!(rt; fault, Some(Fault { reason, offset }), "at {at}");
+    for (layout, changes, len, end) in OTHERS {
+        assert_eq!(rt; refusal(rt.alloc(), layout, changes, len)?, end);
     }
-    Ok(())
-}
-
-#[test]
-fn accepted(rt: HostRuntime) -> Result<(), Fail> {
-    assert_eq!(rt; refusal(rt.alloc(), &THREE, &[], 2624)?, None);
-    assert_eq!(rt; refusal(rt.alloc(), &FOUR, &[], 20_480)?, None);
-    assert_eq!(rt; refusal(rt.alloc(), &THREE, &[(1788, &[1])], 3072)?, None);
     Ok(())
 }
 

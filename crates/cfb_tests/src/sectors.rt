@@ -1,6 +1,6 @@
-//! What the sectors of a file are, and what a file is refused for.
-use crate::files::{END, Row, THREE, file_of};
-use carrier_io::{Blob, Fault, Reason, Stop, Walk};
+//! What the sectors of a file are.
+use crate::files::{Row, THREE, file_of};
+use carrier_io::{Blob, Stop, Walk};
 use cfb_sectors::{Sectors, StreamView, file_offset};
 use std::alloc::Global;
 use std::test::*;
@@ -23,46 +23,6 @@ fn claimed<'f>(alloc: Global, bytes: &'f [u8], walk: &mut Walk) -> Result<Stream
         return Err(Stop::NoMemory);
     }
     sectors.claim(alloc, 5, walk)
-}
-
-/// What the file's loading and its entry 5 are refused for, after a change of one number.
-fn refusal(alloc: Global, at: usize, value: u32) -> Result<Option<Fault>, Fail> {
-    let file = file_of(alloc, &THREE, &[(at, &[value])])?;
-    match claimed(alloc, &file, &mut Walk::new()) {
-        Ok(_) => Ok(None),
-        Err(Stop::Fault(fault)) => Ok(Some(fault)),
-        Err(Stop::NoMemory) => Err("memory")?,
-    }
-}
-
-#[test]
-fn faults(rt: HostRuntime) -> Result<(), Fail> {
-    let rows = [
-        (520, 1, Reason::Cycle, 520),
-        (528, 2, Reason::Shared, 528),
-        (1144, 1024, Reason::ShortChain, 528),
-        (44, 0, Reason::BadFatCount, 44),
-        (44, 6, Reason::BadFatCount, 44),
-        (76, 5, Reason::SectorOutOfRange, 76),
-        (48, 0, Reason::Shared, 48),
-        (48, END, Reason::ShortChain, 48),
-        (60, 1, Reason::Shared, 60),
-        (1140, 3, Reason::Shared, 1140),
-        (524, 3, Reason::Cycle, 524),
-        (528, 5, Reason::SectorOutOfRange, 528),
-        (1780, 1, Reason::SectorOutOfRange, 1780),
-        (2048, 0, Reason::Cycle, 2048),
-        (1784, 65, Reason::ShortChain, 2048),
-        (24, 0x0005_003E, Reason::BadVersion, 26),
-        (24, 0x0004_003E, Reason::BadHeader, 30),
-        (28, 0x000C_FFFE, Reason::BadHeader, 30),
-        (1088, 0x0101_0016, Reason::BadEntryType, 1090),
-    ];
-    for (at, value, reason, offset) in rows {
-        let fault = refusal(rt.alloc(), at, value)?;
-        assert_eq!(rt; fault, Some(Fault { reason, offset }), "at {at}");
-    }
-    Ok(())
 }
 
 /// How many entries there are, how many words in each table, and the size and the place of entry 5.

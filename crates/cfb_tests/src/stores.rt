@@ -1,3 +1,4 @@
+use crate::files::{END, FREE, Row, put, put_rows};
 use carrier_io::{Blob, Fault, Reason, Stop, Walk};
 use cfb_directory::open_files;
 use cfb_sectors::StreamView;
@@ -6,12 +7,8 @@ use ole_stores::{read_store, read_store_file};
 use std::alloc::{AllocError, Global};
 use std::test::*;
 
-const FREE: u32 = 0xFFFF_FFFF;
-
-const END: u32 = 0xFFFF_FFFE;
-
 /// What the header of either version says.
-const HEADER: [(u32, &[u32]); 4] = [
+const HEADER: [Row<'static>; 4] = [
     (0, &[0xE011_CFD0, 0xE11A_B1A1]),
     (32, &[6]),
     (44, &[1, 1, 0, 4096, END]),
@@ -19,67 +16,48 @@ const HEADER: [(u32, &[u32]); 4] = [
 ];
 
 /// What the header of version 3 says and its table, whose directory has nine sectors.
-const THIRD: [(u32, &[u32]); 2] = [
+const THIRD: [Row<'static>; 2] = [
     (24, &[0x0003_003E, 0x0009_FFFE]),
     (512, &[0xFFFF_FFFD, 2, 3, 4, 5, 6, 7, 8, 9, END]),
 ];
 
 /// What the header of version 4 says and its table, whose directory has one sector.
-const FOURTH: [(u32, &[u32]); 3] = [
+const FOURTH: [Row<'static>; 3] = [
     (24, &[0x0004_003E, 0x000C_FFFE]),
     (40, &[1]),
     (4096, &[0xFFFF_FFFD, END]),
 ];
 
-/// Writes bytes from a place on.
-fn put(file: &mut [u8], at: u32, bytes: &[u8]) {
-    for (slot, byte) in file.iter_mut().skip(at as usize).zip(bytes) {
-        *slot = *byte;
-    }
-}
-
-/// Writes numbers in four bytes each.
-fn put_words(file: &mut [u8], at: u32, words: &[u32]) {
-    let mut at = at;
-    for word in words {
-        put(file, at, &word.to_le_bytes());
-        at = at.saturating_add(4);
-    }
-}
-
-/// Writes numbers at each of some places.
-fn put_all(file: &mut [u8], rows: &[(u32, &[u32])]) {
-    for (at, words) in rows {
-        put_words(file, *at, *words);
-    }
-}
-
 /// A root and so many storages, each in the one before, all of the name `a`.
 fn put_storages(file: &mut [u8], directory: u16, storages: u8) {
-    for k in 0..=u32::from(storages) {
-        let at = u32::from(directory) + 128 * k;
+    for k in 0..=u16::from(storages) {
+        let at = usize::from(directory) + 128 * usize::from(k);
         let kind = if k == 0 { 0x0105_0004 } else { 0x0101_0004 };
-        let child = if k < u32::from(storages) { k + 1 } else { FREE };
-        put_words(file, at, &[0x61]);
-        put_words(file, at + 64, &[kind, FREE, FREE, child]);
+        let child = if k < u16::from(storages) {
+            u32::from(k) + 1
+        } else {
+            FREE
+        };
+        put(file, at, &[0x61]);
+        put(file, at + 64, &[kind, FREE, FREE, child]);
     }
 }
 
 /// A file of version 3 with at most 35 storages, each in the one before, where some numbers were changed.
-fn nested(alloc: Global, storages: u8, changes: &[(u32, &[u32])]) -> Result<Vec<u8>, AllocError> {
+fn nested(alloc: Global, storages: u8, changes: &[Row<'_>]) -> Result<Vec<u8>, AllocError> {
     let mut file = vec![in alloc; 0; 5632]?;
-    put_all(&mut file, &HEADER);
-    put_all(&mut file, &THIRD);
+    put_rows(&mut file, &HEADER);
+    put_rows(&mut file, &THIRD);
     put_storages(&mut file, 1024, storages);
-    put_all(&mut file, changes);
+    put_rows(&mut file, changes);
     Ok(file)
 }
 
 /// A file of version 4 with one storage.
 fn nested4(alloc: Global) -> Result<Vec<u8>, AllocError> {
     let mut file = vec![in alloc; 0; 12_288]?;
-    put_all(&mut file, &HEADER);
-    put_all(&mut file, &FOURTH);
+    put_rows(&mut file, &HEADER);
+    put_rows(&mut file, &FOURTH);
     put_storages(&mut file, 8192, 1);
     Ok(file)
 }
@@ -131,7 +109,7 @@ fn stores_of_files(rt: HostRuntime) -> Result<(), Fail> {
 }
 
 /// A root with a class, and in it an empty stream and an empty storage.
-const MEMBERS: [(u32, &[u32]); 4] = [
+const MEMBERS: [Row<'static>; 4] = [
     (1104, &[0x1234_5678]),
     (1152, &[0x62]),
     (1224, &[2, FREE]),
