@@ -34,13 +34,8 @@ fn refusal(
     }
 }
 
-/// A file: its layout, what was changed in it, how many of its bytes there are, and what it is refused for.
-type Refusal = (
-    &'static Layout,
-    &'static [Row<'static>],
-    usize,
-    Option<(Reason, u64)>,
-);
+/// What was changed in a file, how many of its bytes there are, and what it is refused for.
+type Refusal = (&'static [Row<'static>], usize, Option<(Reason, u64)>);
 
 /// One number that was changed in a whole file of version 3, and what the file is refused for.
 const CHANGES: [(Row<'static>, Reason, u64); 24] = [
@@ -70,57 +65,51 @@ const CHANGES: [(Row<'static>, Reason, u64); 24] = [
     ((1144, &[1024]), Reason::ShortChain, 528),
 ];
 
-/// Files that were changed in more than one place, cut, or of version 4.
-const OTHERS: [Refusal; 14] = [
+/// Files of version 3 that were changed in more than one place, or cut, or are none the worse.
+const OF_THREE: [Refusal; 6] = [
+    (&[(1396, &[0, 1])], 3072, Some((Reason::Shared, 1780))),
     (
-        &THREE,
-        &[(1396, &[0, 1])],
-        3072,
-        Some((Reason::Shared, 1780)),
-    ),
-    (
-        &THREE,
         &[(1144, &[48]), (1784, &[64])],
         3072,
         Some((Reason::FileTruncated, 1784)),
     ),
-    (&THREE, &[], 511, Some((Reason::FileTruncated, 511))),
-    (&THREE, &[], 2623, Some((Reason::FileTruncated, 1144))),
-    (&THREE, &[], 2624, None),
-    (&THREE, &[(1788, &[1])], 3072, None),
-    (&FOUR, &[], 20_480, None),
-    (&FOUR, &[(4100, &[1])], 20_480, Some((Reason::Cycle, 4100))),
-    (&FOUR, &[(8956, &[1])], 20_480, Some((Reason::Shared, 8948))),
+    (&[], 511, Some((Reason::FileTruncated, 511))),
+    (&[], 2623, Some((Reason::FileTruncated, 1144))),
+    (&[], 2624, None),
+    (&[(1788, &[1])], 3072, None),
+];
+
+/// Files of version 4.
+const OF_FOUR: [Refusal; 8] = [
+    (&[], 20_480, None),
+    (&[(4100, &[1])], 20_480, Some((Reason::Cycle, 4100))),
+    (&[(8956, &[1])], 20_480, Some((Reason::Shared, 8948))),
     (
-        &FOUR,
         &[(28, &[0x0009_FFFE])],
         20_480,
         Some((Reason::BadHeader, 30)),
     ),
     (
-        &FOUR,
         &[(24, &[0x0005_003E])],
         20_480,
         Some((Reason::BadVersion, 26)),
     ),
-    (&FOUR, &[(32, &[6])], 4096, Some((Reason::BadFatCount, 44))),
-    (&FOUR, &[(32, &[6])], 4000, Some((Reason::BadFatCount, 44))),
-    (
-        &FOUR,
-        &[(32, &[6])],
-        511,
-        Some((Reason::FileTruncated, 511)),
-    ),
+    (&[(32, &[6])], 4096, Some((Reason::BadFatCount, 44))),
+    (&[(32, &[6])], 4000, Some((Reason::BadFatCount, 44))),
+    (&[(32, &[6])], 511, Some((Reason::FileTruncated, 511))),
 ];
 
 #[test]
 fn refusals(rt: HostRuntime) -> Result<(), Fail> {
     for (change, reason, offset) in CHANGES {
-        let fault = refusal(rt.alloc(), &THREE, &[change], 3072)?;
-        assert_eq!(rt; fault, Some((reason, offset)));
+        let end = refusal(rt.alloc(), &THREE, &[change], 3072)?;
+        assert_eq!(rt; end, Some((reason, offset)));
     }
-    for (layout, changes, len, end) in OTHERS {
-        assert_eq!(rt; refusal(rt.alloc(), layout, changes, len)?, end);
+    for (changes, len, end) in OF_THREE {
+        assert_eq!(rt; refusal(rt.alloc(), &THREE, changes, len)?, end);
+    }
+    for (changes, len, end) in OF_FOUR {
+        assert_eq!(rt; refusal(rt.alloc(), &FOUR, changes, len)?, end);
     }
     Ok(())
 }
