@@ -20,6 +20,7 @@ impl MemorySource {
     ghost use Rattle.std.specs.Prelude.{◌≡◌, Some};
     ghost use Rattle.carrier_io.specs.Memory.{source_left, source_faults, source_call, source_failing};
 
+    /// A source over these bytes, whose calls with the numbers in `failing` fail.
     pub fn new(bytes: Vec<u8>, failing: Vec<u64>) -> MemorySource
         ensures left { source_left result ≡ Some bytes.items }
         ensures call { source_call result ≡ 0 }

@@ -30,6 +30,7 @@ impl Model for Numbers {
 }
 
 impl Numbers {
+    /// An empty list.
     pub fn new(alloc: Global) -> Numbers
         ensures { result ≡ [] }
     {
@@ -52,6 +53,7 @@ impl Numbers {
         })
     }
 
+    /// Puts a number behind the others.
     pub fn push(&mut self, item: u64) -> Result<(), NoMemory>
         ensures ok { OnOk result (self.new ≡ self.old ++ item ∷ []) }
         ensures err { OnErr result (self.new ≡ self.old) }
@@ -68,6 +70,7 @@ impl Numbers {
         Ok(())
     }
 
+    /// How many numbers it has.
     pub fn len(&self) -> usize
         ensures { result ≡ length self.now }
     {
@@ -78,6 +81,7 @@ impl Numbers {
         }
     }
 
+    /// The number at a place, counted from 0.
     pub fn get(&self, k: usize) -> &u64
         requires { k < length self.now }
         ensures { slice_get self.now k ≡ Some result.now }

@@ -33,6 +33,7 @@ impl Model for PassedList {
 }
 
 impl PassedList {
+    /// An empty list.
     pub fn new(alloc: Global) -> PassedList
         ensures { result ≡ [] }
     {
@@ -41,6 +42,7 @@ impl PassedList {
         }
     }
 
+    /// Puts what was passed over behind the rest.
     pub fn push(&mut self, item: Passed) -> Result<(), NoMemory>
         ensures ok { OnOk result (self.new ≡ self.old ++ passed_of item ∷ []) }
         ensures err { OnErr result (self.new ≡ self.old) }
@@ -49,12 +51,14 @@ impl PassedList {
         Ok(())
     }
 
+    /// How much was passed over.
     pub fn len(&self) -> usize
         ensures { result ≡ length self.now }
     {
         self.list.len()
     }
 
+    /// What was passed over at a place, counted from 0.
     pub fn get(&self, k: usize) -> &Passed
         requires { k < length self.now }
         ensures { slice_get self.now k ≡ Some (passed_of result.now) }

@@ -16,6 +16,7 @@ impl SureSource {
     ghost use Rattle.std.specs.Prelude.{◌≡◌, Some};
     ghost use Rattle.carrier_io.specs.Memory.{sure_left};
 
+    /// A source over these bytes.
     pub fn new(bytes: Vec<u8>) -> SureSource
         ensures { sure_left result ≡ Some bytes.items }
     {
@@ -58,6 +59,7 @@ impl SureSink {
     ghost use Rattle.std.specs.Prelude.{◌≡◌};
     ghost use Rattle.carrier_io.specs.Memory.{taken_of};
 
+    /// A sink that has taken nothing.
     pub fn new() -> SureSink
         ensures { taken_of result ≡ 0 }
     {

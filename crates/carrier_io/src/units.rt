@@ -20,6 +20,7 @@ impl Model for Units {
 }
 
 impl Units {
+    /// An empty list.
     pub fn new(alloc: Global) -> Units
         ensures { result ≡ [] }
     {
@@ -28,6 +29,7 @@ impl Units {
         }
     }
 
+    /// Puts a unit behind the others.
     pub fn push(&mut self, item: u16) -> Result<(), NoMemory>
         ensures ok { OnOk result (self.new ≡ self.old ++ item ∷ []) }
         ensures err { OnErr result (self.new ≡ self.old) }
@@ -36,12 +38,14 @@ impl Units {
         Ok(())
     }
 
+    /// How many units it has.
     pub fn len(&self) -> usize
         ensures { result ≡ length self.now }
     {
         self.list.len()
     }
 
+    /// The unit at a place, counted from 0.
     pub fn get(&self, k: usize) -> &u16
         requires { k < length self.now }
         ensures { slice_get self.now k ≡ Some result.now }

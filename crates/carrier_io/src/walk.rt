@@ -19,6 +19,7 @@ impl Model for Walk {
 }
 
 impl Walk {
+    /// A walk of no steps.
     pub fn new() -> Walk
         ensures { result ≡ 0 }
     {

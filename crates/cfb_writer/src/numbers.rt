@@ -17,6 +17,7 @@ pub struct Numbers {
 }
 
 impl Numbers {
+    /// The number of the first sector of the directory. [MS-CFB 2.6]
     pub fn directory_start(&self) -> u32
         requires { IsSmall self.now }
         ensures { result ≡ layout.directory_start (plan_seen self.now) }
@@ -24,6 +25,7 @@ impl Numbers {
         self.fat + self.difat
     }
 
+    /// The number of the first sector of the mini table. [MS-CFB 2.4]
     pub fn mini_fat_start(&self) -> u32
         requires { IsSmall self.now }
         ensures { result ≡ layout.mini_fat_start (plan_seen self.now) }
@@ -31,6 +33,7 @@ impl Numbers {
         self.fat + self.difat + self.directory
     }
 
+    /// The number of the first sector of the mini stream. [MS-CFB 2.6.2]
     pub fn mini_stream_start(&self) -> u32
         requires { IsSmall self.now }
         ensures { result ≡ layout.mini_stream_start (plan_seen self.now) }
@@ -38,6 +41,7 @@ impl Numbers {
         self.fat + self.difat + self.directory + self.mini_fat
     }
 
+    /// The number of the first sector behind the mini stream, where streams with sectors of their own begin.
     pub fn long_start(&self) -> u32
         requires { IsSmall self.now }
         ensures { result ≡ layout.long_start (plan_seen self.now) }

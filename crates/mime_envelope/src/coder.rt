@@ -19,6 +19,7 @@ pub struct Coder {
 }
 
 impl Coder {
+    /// A coder of the standard alphabet. [RFC 2045 6.8]
     pub fn new() -> Coder {
         let Ok(alphabet) = Alphabet::new(
             "ABCDEFGHIJKLMNOPQRSTUVWXYZabcdefghijklmnopqrstuvwxyz0123456789+/",

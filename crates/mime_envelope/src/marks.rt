@@ -19,6 +19,7 @@ impl Marks {
     ghost use Rattle.std.specs.Prelude.{IfOk};
     ghost use Rattle.mail_model.specs.Entities as entity;
 
+    /// The marks of a boundary: it behind two hyphens, and the same with two more behind it. [RFC 2046 5.1.1]
     pub fn new(alloc: Global, boundary: Vec<u8>) -> Result<Marks, NoMemory>
         ensures { IfOk result (λ m. m.boundary.items ≡ boundary.items) }
     {

@@ -22,6 +22,7 @@ impl Model for Tags {
 }
 
 impl Tags {
+    /// An empty set.
     pub fn new(alloc: Global) -> Tags
         ensures { result ≡ [] }
     {

@@ -50,6 +50,7 @@ impl From<NoMemory> for SettleEnd {
 }
 
 impl<B: Blob> Arrivals<B> {
+    /// No properties yet.
     pub fn new(alloc: Global) -> Arrivals<B>
         ensures none { result.props ≡ [] }
         ensures unmarked { AreMarksOf result [] }

@@ -80,12 +80,14 @@ impl<'a> Attributes<'a> {
         Ok(())
     }
 
+    /// How many attributes there are.
     pub fn len(&self) -> usize
         ensures { result ≡ length self.now }
     {
         self.list.len()
     }
 
+    /// The attribute at a place, counted from 0.
     pub fn get(&self, k: usize) -> &Attribute<'a>
         requires { k < length self.now }
         ensures { slice_get self.now k ≡ Some (view result.now) }

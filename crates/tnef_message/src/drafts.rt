@@ -124,6 +124,7 @@ fn test_once(section: &Section<'_>, attribute: &Attribute<'_>) -> Result<(), Fau
 }
 
 impl<'a> Draft<'a> {
+    /// A draft before the first attribute.
     pub fn new(alloc: Global) -> Draft<'a>
         ensures { IsDraft [] result }
     {

@@ -31,6 +31,7 @@ pub struct Section<'a> {
 }
 
 impl<'a> Section<'a> {
+    /// A section before the first attribute.
     pub fn new(alloc: Global) -> Section<'a>
         ensures seen { result.seen.items ≡ [] }
         ensures list { result.list ≡ [] }
