@@ -18,7 +18,7 @@ build:
 test:
 	.ci/run
 
-# The examples of README.md on the shipped sample, with the built program.
+# The examples of README.md and docs/AT_SCALE.md on the shipped sample, with the built program.
 examples:
 	bench/examples.sh $(PROGRAM)
 

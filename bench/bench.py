@@ -1,7 +1,7 @@
 #!/usr/bin/env python3
 """Times the built program on large inputs, beside sha256sum on the same file.
 
-    cd crates/outlook_cli && rt run; cd ../..     builds crates/outlook_cli/out/outlook_cli
+    make build                                    builds crates/outlook_cli/out/outlook_cli
     bench/bench.py                                all cases; the inputs take up to 1 GB in a temporary folder
     bench/bench.py --scale 8 --runs 1 named       an eighth of each size, one run, the cases with 'named' in their names
     bench/bench.py --list                         the cases

@@ -1,5 +1,5 @@
 #!/usr/bin/env python3
-"""Times what the program does not reach yet, beside sha256sum on the same file.
+"""Times single crates by small programs over them, beside sha256sum on the same file.
 
     bench/libraries.py [COMMIT] [--folder FOLDER]
 

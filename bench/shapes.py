@@ -818,7 +818,7 @@ def deep_words(count):
 # ---- short files that say they are long
 
 def short_files():
-    """Name, command, bytes and the front of the line of files of less than 4 KiB."""
+    """Name, command, bytes and the front of the line of files of less than 8 KiB."""
     big = 1 << 31
     file = inputs.compound(Entry("Root Entry", children=[Entry("__properties_version1.0", msg_properties([]))]))
     stream = inputs.msg_stream(5000, False)

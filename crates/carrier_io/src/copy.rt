@@ -5,7 +5,7 @@ use crate::blob::Blob;
 use crate::failures::NoMemory;
 use std::alloc::Global;
 
-/// A blob's bytes in one piece. Room for them all is taken at once.
+/// A blob's bytes in one piece. Room for them all is taken at once. NoMemory says that memory ran out.
 pub fn copy_bytes<B: Blob>(alloc: Global, blob: &B) -> Result<Vec<u8>, NoMemory>
     ensures { IfOk result (λ r. r.items ≡ B.bytes blob.now) }
 {

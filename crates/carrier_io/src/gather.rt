@@ -165,7 +165,8 @@ impl<D: Lent, K: Opening> Sink for Gatherer<D, K> {
     }
 }
 
-/// Appends what a plan writes, in few calls of the sink.
+/// Appends what a plan writes, in few calls of the sink. Failed says that the sink failed; then a front of them may
+/// stand there.
 pub fn write_gathered<P: Writing, W: Sink>(plan: &P, sink: &mut W) -> Result<(), Failed>
     ensures { Writes (W.held sink.old) (W.held sink.new) (W.faults sink.old) (W.faults sink.new) result (P.text plan.now) }
 {

@@ -92,7 +92,7 @@ impl MemorySink {
     ghost use Rattle.std.specs.Prelude.{◌≡◌, ◌<◌, Some, [], length, IfOk};
     ghost use Rattle.carrier_io.specs.Memory.{sink_held, sink_faults, sink_call, sink_failing, sink_room};
 
-    /// Takes the memory for all that it can hold.
+    /// Takes the memory for all that it can hold. NoMemory says that memory ran out.
     pub fn new(alloc: Global, room: usize, failing: Vec<u64>) -> Result<MemorySink, NoMemory>
         ensures held { IfOk result (λ s. sink_held s ≡ Some []) }
         ensures room { IfOk result (λ s. sink_room s ≡ room) }

@@ -40,7 +40,7 @@ impl Numbers {
         }
     }
 
-    /// An empty list with room for so many numbers.
+    /// An empty list with room for so many numbers. NoMemory says that memory ran out.
     pub fn with_capacity(alloc: Global, capacity: usize) -> Result<Numbers, NoMemory>
         ensures { IfOk result (λ list. list ≡ []) }
     {
@@ -53,7 +53,7 @@ impl Numbers {
         })
     }
 
-    /// Puts a number behind the others.
+    /// Puts a number behind the others. The list is unchanged where memory is refused.
     pub fn push(&mut self, item: u64) -> Result<(), NoMemory>
         ensures ok { OnOk result (self.new ≡ self.old ++ item ∷ []) }
         ensures err { OnErr result (self.new ≡ self.old) }

@@ -42,7 +42,7 @@ impl PassedList {
         }
     }
 
-    /// Puts what was passed over behind the rest.
+    /// Puts what was passed over behind the rest. The list is unchanged where memory is refused.
     pub fn push(&mut self, item: Passed) -> Result<(), NoMemory>
         ensures ok { OnOk result (self.new ≡ self.old ++ passed_of item ∷ []) }
         ensures err { OnErr result (self.new ≡ self.old) }

@@ -11,9 +11,9 @@ use std::alloc::{AllocError, AllocFailed};
 pub enum Reason {
     /// The input begins with neither signature; at 0.
     NotACarrier,
-    /// More than 268,435,456 bytes were given; at that number.
+    /// More bytes were given than the command reads: 268,435,456, or 33,554,432 of a JSON text; at that number.
     InputTooLong,
-    /// A message of level 33; at the property that embeds it.
+    /// A message of level 33; in a .msg file at the entry of the object, in a TNEF stream at the first byte of its value.
     TooDeep,
     /// A compound file without its signature; at 0.
     BadFileSignature,
@@ -27,11 +27,12 @@ pub enum Reason {
     SectorOutOfRange,
     /// A named sector is in this chain already; at the field or word that names it.
     Cycle,
-    /// A named sector is in another chain or list; at the field or word that names it.
+    /// A named sector is in another chain or list, or is named for the FAT a second time; at the field or word that names it.
     Shared,
     /// A chain ends before its need is met; at its last word, or at the start field of an empty one.
     ShortChain,
-    /// A needed byte is past the end of the file; at the field that needs it.
+    /// A needed byte is past the end of the file or of the mini stream; at the field that needs it, or at the file's length
+    /// where its header is cut.
     FileTruncated,
     /// A directory entry of a type that may not stand there; at the type.
     BadEntryType,
@@ -69,7 +70,7 @@ pub enum Reason {
     DuplicateProperty,
     /// A storage without its property stream; at the storage's directory entry.
     MissingProperties,
-    /// An embedded message without its storage; at the property entry.
+    /// The object of an attachment without its storage; at the property entry.
     MissingStorage,
     /// A storage 33 levels below its store; at the type in its directory entry.
     StoreTooDeep,
@@ -93,7 +94,7 @@ pub enum Reason {
     BadNameSize,
     /// A single value with a count other than 1; at the count.
     BadCount,
-    /// A size that is odd for a text of units, or below 16 for an object; at the size.
+    /// A size that is odd for a text of units, or below 16 for the object of an attachment; at the size.
     BadSize,
     /// A key and kind for the second time in one list; at the later tag.
     DuplicateListProperty,

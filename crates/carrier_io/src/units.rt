@@ -29,7 +29,7 @@ impl Units {
         }
     }
 
-    /// Puts a unit behind the others.
+    /// Puts a unit behind the others. The list is unchanged where memory is refused.
     pub fn push(&mut self, item: u16) -> Result<(), NoMemory>
         ensures ok { OnOk result (self.new ≡ self.old ++ item ∷ []) }
         ensures err { OnErr result (self.new ≡ self.old) }
@@ -60,7 +60,7 @@ impl Units {
         self.list.as_slice()
     }
 
-    /// Equal units.
+    /// Equal units. NoMemory says that memory ran out.
     pub fn copy(&self, alloc: Global) -> Result<Units, NoMemory>
         ensures { IfOk result (λ r. r ≡ self.now) }
     {

@@ -136,7 +136,7 @@ impl<'a> Files<'a> {
         self.sectors.entry_offset(at.entry)
     }
 
-    /// The file offset of the size of a stream, in its entry; None where the storage has no such stream [MS-CFB 2.6.3].
+    /// The file offset of the size of a stream, in its entry; None where the storage has no such stream. [MS-CFB 2.6.1]
     pub fn size_offset(&self, at: StorageId, name: &str) -> Option<u64>
         requires { IsThere self.now at }
         ensures { (units : List ℕ) → IsUtf16Of units name.now → result ≡ option_map size_place (stream_named (storage_seen self.now at).children units) }

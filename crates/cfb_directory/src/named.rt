@@ -9,8 +9,8 @@ use crate::rising::place_of;
 use crate::spelled::Names;
 use std::alloc::Global;
 
-/// The names of siblings. Where they rise, as those of a well-formed file do, they are looked up where they stand; else there
-/// is an index of them.
+/// The names of siblings. Where they rise, as those of most well-formed files do, they are looked up where they stand; else
+/// there is an index of them.
 #[derive(Drop)]
 pub struct Named {
     pub names: Names,

@@ -9,7 +9,8 @@ use crate::names::lower;
 use crate::spelled::Names;
 use std::cmp::Ordering;
 
-/// The order of two names with ASCII letters in lower case: by length, and then by the units. [MS-CFB 2.6.4]
+/// The order of two names with ASCII letters in lower case: by length, and then by the units. The order of siblings has
+/// them in upper case.
 fn names_order(one: &[u16], other: &[u16]) -> Ordering
     ensures { result ≡ key_cmp (folded one.now) (folded other.now) }
 {

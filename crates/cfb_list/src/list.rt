@@ -76,7 +76,8 @@ impl<'t, B: Blob> FileList<'t, B> {
         self.root_class
     }
 
-    /// The same list with what is in each storage in its order. Each storage is sorted once.
+    /// The same list with what is in each storage in its order. Each storage is sorted once. NoMemory says that memory
+    /// ran out.
     pub fn sorted(self) -> Result<FileList<'t, B>, NoMemory>
         ensures value { IfOk result (λ list. list ≡ record self.entry { storages = map siblings_in_order self.entry.storages }) }
         ensures tree { IfOk result (λ list. listed.tree_of list.storages ≡ sorted (listed.tree_of self.entry.storages)) }

@@ -51,7 +51,7 @@ pub fn read_class(bytes: &[u8], at: usize) -> [u8; 16]
     class
 }
 
-/// The size of an entry's stream. In version 3, whose sectors have 512 bytes, the high half counts as zero. [MS-CFB 2.6.3]
+/// The size of an entry's stream. In version 3, whose sectors have 512 bytes, the high half counts as zero. [MS-CFB 2.6.1]
 fn read_size(bytes: &[u8], size: u32, at: usize) -> u64
     requires inside { at + 128 ≤ length bytes.now }
     ensures { result ≡ size_at size bytes.now at }

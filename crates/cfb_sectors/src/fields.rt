@@ -57,7 +57,7 @@ pub(crate) const CLASS: usize = 80;
 /// The first sector of an entry's stream [MS-CFB 2.6.1].
 pub(crate) const START: usize = 116;
 
-/// The size of an entry's stream, of 8 bytes [MS-CFB 2.6.3].
+/// The size of an entry's stream, of 8 bytes [MS-CFB 2.6.1].
 pub const SIZE: usize = 120;
 
 /// The object type of a storage [MS-CFB 2.6.1].

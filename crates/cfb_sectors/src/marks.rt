@@ -17,7 +17,7 @@ impl Model for SectorMarks {
 }
 
 impl SectorMarks {
-    /// No sector is taken.
+    /// No sector is taken. AllocError says that memory ran out.
     pub fn new(alloc: Global, count: usize) -> Result<SectorMarks, AllocError>
         ensures { IfOk result (λ m. m ≡ replicate count false) }
     {

@@ -59,7 +59,7 @@ impl<'a> StreamView<'a> {
         }
     }
 
-    /// An equal view.
+    /// An equal view. NoMemory says that memory ran out.
     pub fn copy(&self) -> Result<StreamView<'a>, NoMemory>
         ensures bytes { IfOk result (λ v. bytes_of v ≡ bytes_of self.now) }
         ensures places { IfOk result (λ v. places v ≡ places self.now) }
@@ -73,7 +73,7 @@ impl<'a> StreamView<'a> {
         })
     }
 
-    /// The view of the first bytes.
+    /// The view of the first bytes. NoMemory says that memory ran out.
     pub fn prefix(&self, len: usize) -> Result<StreamView<'a>, NoMemory>
         requires { len ≤ length (bytes_of self.now) }
         ensures bytes { IfOk result (λ v. bytes_of v ≡ take len (bytes_of self.now)) }

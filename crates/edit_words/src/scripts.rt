@@ -151,7 +151,7 @@ fn are_short(words: &[String]) -> bool
     true
 }
 
-/// The edits that the words are, one or more. None where they are no edits.
+/// The edits that the words are, one or more. None where they are no edits. NoMemory says that memory ran out.
 pub fn read_edits(alloc: Global, words: &[String]) -> Result<Option<Edits>, NoMemory>
     ensures { IfOk result (λ r. r ≡ plain.edits_of (texts words.now)) }
 {

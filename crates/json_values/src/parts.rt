@@ -57,7 +57,7 @@ fn is_among(key: &str, names: &[&str]) -> bool
     false
 }
 
-/// Whether an object has no members but those of these names.
+/// Whether an object has no members but those of these names; so too of a value that is no object.
 pub fn has_only(value: &Value<'_>, names: &[&str]) -> bool
     ensures { result ≡ list_all (plain_among (map (λ name. name.now) names.now)) (keys_of (view value.now)) }
 {

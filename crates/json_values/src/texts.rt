@@ -53,7 +53,9 @@ fn read_text<'a>(
     }
 }
 
-/// The value of a JSON text, which keeps its texts in the text or, where they have escapes, in the scratch.
+/// The value of a JSON text, which keeps its texts in the text or, where they have escapes, in the scratch. NotJson
+/// says that the bytes are no UTF-8 or no JSON, nest too deep, or have a number past the greatest float; NoMemory that
+/// memory ran out.
 pub fn parse<'a>(
     alloc: Global,
     bytes: &'a [u8],

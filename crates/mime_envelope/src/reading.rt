@@ -47,7 +47,7 @@ fn coded_part<'a>(alloc: Global, bytes: &'a [u8]) -> Result<Part<'a>, Stop>
     Ok(part)
 }
 
-/// Whether a part's body is base64.
+/// Refuses a part whose encoding isn't base64: NotBase64 at the field's line, or at the body where there is none.
 fn test_encoding(part: &Part) -> Result<(), Fault>
     ensures { envelope.bad_encoding (part_view part.now) ≡ refusal result }
 {
@@ -87,7 +87,7 @@ fn is_text(body: &[u8]) -> bool
     good
 }
 
-/// Whether all bytes of a body at an offset are base64 characters or skipped.
+/// Refuses a body at an offset with a byte that is neither a base64 character nor skipped: BadBase64 at the first.
 fn test_characters(at: u64, body: &[u8]) -> Result<(), Fault>
     requires { at + length body.now < 2 ^ 64 }
     ensures { envelope.bad_character at body.now ≡ refusal result }

@@ -37,7 +37,7 @@ pub fn envelope_size(len: u64) -> u64
 }
 
 /// Appends the canonical envelope of the bytes (RFC 2045): the header of a TNEF part, and base64 in lines of 76
-/// characters.
+/// characters. Failed says that the sink failed; then a front of them may stand there.
 pub fn write_envelope<W: Sink>(bytes: &[u8], sink: &mut W) -> Result<(), Failed>
     ensures { Writes (W.held sink.old) (W.held sink.new) (W.faults sink.old) (W.faults sink.new) result (envelope_of bytes.now) }
 {

@@ -53,7 +53,8 @@ impl Model for NameMap {
 impl NameMap {
     ghost use Rattle.msg_nameid.specs.Maps.{IsAssigned, IsLeastId, names_in};
 
-    /// The map that gives each name of a set its id: the k-th, from 0, has the id 8000 plus k. [MS-OXMSG 2.2.3]
+    /// The map that gives each name of a set its id: the k-th, from 0, has the id 8000 plus k. NoMemory says that
+    /// memory ran out. [MS-OXMSG 2.2.3]
     pub fn assign(alloc: Global, names: &NameSet) -> Result<NameMap, NoMemory>
         requires few { length names.now ≤ 32000 }
         ensures pairs { IfOk result (λ m. m ≡ pairs_from 0 names.now) }

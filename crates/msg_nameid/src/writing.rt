@@ -115,7 +115,7 @@ fn add_stream<'t, B: Blob>(
     files.add_named_stream(at, &name, Content::Own(bytes))
 }
 
-/// The units of the name of the stream that is named by a tag. [MS-OXMSG 2.1.2]
+/// The units of the name of the stream that is named by a tag. [MS-OXMSG 2.1.3]
 fn stream_name(alloc: Global, tag: u32) -> Result<Vec<u16>, NoMemory>
     ensures { IfOk result (λ units. units.items ≡ value_name tag) }
 {

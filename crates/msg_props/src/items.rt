@@ -20,8 +20,8 @@ use prop_names::Key;
 use prop_values::{Part, Prop, kind_of};
 use std::alloc::Global;
 
-/// What an entry gives: a property, something that is passed over, or the message that is embedded in an attachment.
-/// [MS-OXMSG 2.4]
+/// What an entry gives: a property, something that is passed over, or the object of an attachment, which is a message or
+/// a store. [MS-OXMSG 2.4]
 #[derive(Drop)]
 pub enum Item<'a> {
     Kept(Prop<StreamView<'a>>),

@@ -40,7 +40,7 @@ pub struct Section<'a> {
 }
 
 /// What was read of a list, before it was looked at for doubles: the properties as they came, each marked by the place of
-/// its entry; the place of the entry of an embedded message; and the tags of the properties, so that no stream is read
+/// its entry; the place of the entry of an attachment's object; and the tags of the properties, so that no stream is read
 /// again and again.
 #[derive(Drop)]
 struct Draft<'a> {
@@ -49,7 +49,7 @@ struct Draft<'a> {
     tags: Tags,
 }
 
-/// The fault of an entry whose property, or embedded message, is there already.
+/// The fault of an entry whose property, or object, is there already.
 fn double_at(offset: u64) -> Fault
     ensures { fault_of result ≡ (DUPLICATE_PROPERTY, offset) }
 {
@@ -70,7 +70,7 @@ impl<'a> Draft<'a> {
         }
     }
 
-    /// Adds what an entry gave. A second property of a tag, or a second embedded message, is a fault there.
+    /// Adds what an entry gave. A second property of a tag, or a second object, is a fault there.
     fn add(&mut self, item: Item<'a>, entry: &Entry, passed: &mut PassedList) -> Result<(), Stop>
         ensures ok { OnOk result (IsWith (item_of (entry_of entry.now) item.entry) (entry_of entry.now) self.old self.new) }
         ensures passed { OnOk result (passed.new ≡ passed.old ++ filter_map lists.passed_in (item_of (entry_of entry.now) item.entry ∷ [])) }

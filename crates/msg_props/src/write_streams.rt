@@ -45,7 +45,7 @@ fn value_name(tag: u32) -> [u16; 20]
 }
 
 /// The name of the stream of one of several texts: that of the value, a hyphen and the eight digits of its place.
-/// [MS-OXMSG 2.1.4.3]
+/// [MS-OXMSG 2.1.4]
 fn element_name(tag: u32, place: u32) -> [u16; 29]
     ensures { result ≡ stream_names.element_name tag place }
 {

@@ -21,7 +21,7 @@ pub fn width_of_one(kind: Kind) -> usize
     }
 }
 
-/// Several numbers, each in the bytes of the kind. [MS-OXMSG 2.1.4.2]
+/// Several numbers, each in the bytes of the kind. [MS-OXMSG 2.1.4]
 pub fn numbers_bytes(alloc: Global, kind: Kind, list: &Numbers) -> Result<Vec<u8>, NoMemory>
     requires some { 0 < plain.width_in plain.numbers_widths (kind_number kind) }
     requires few { length list.now < plain.list_limit }
@@ -35,7 +35,7 @@ pub fn numbers_bytes(alloc: Global, kind: Kind, list: &Numbers) -> Result<Vec<u8
     Ok(out)
 }
 
-/// Several GUIDs. [MS-OXMSG 2.1.4.2]
+/// Several GUIDs. [MS-OXMSG 2.1.4]
 pub fn guids_bytes(alloc: Global, list: &Guids) -> Result<Vec<u8>, NoMemory>
     requires { length list.now < plain.list_limit }
     ensures { IfOk result (λ out. out.items ≡ flat_map (λ set. set) list.now) }
@@ -47,7 +47,7 @@ pub fn guids_bytes(alloc: Global, list: &Guids) -> Result<Vec<u8>, NoMemory>
     Ok(out)
 }
 
-/// The bytes of the length of one of several texts or binaries. [MS-OXMSG 2.1.4.3, 2.1.4.4]
+/// The bytes of the length of one of several texts or binaries. [MS-OXMSG 2.1.4]
 pub fn length_size(kind: Kind) -> usize
     ensures { result ≡ (if kind_number kind == 0x1102 then 8 else 4) }
 {
@@ -72,7 +72,7 @@ fn append_length<B: Blob>(out: &mut Vec<u8>, kind: Kind, bytes: &B) -> Result<()
     Ok(())
 }
 
-/// The lengths of several texts or binaries. [MS-OXMSG 2.1.4.3, 2.1.4.4]
+/// The lengths of several texts or binaries. [MS-OXMSG 2.1.4]
 pub fn lengths_bytes<B: Blob>(
     alloc: Global,
     kind: Kind,

@@ -269,7 +269,8 @@ fn add_body<'t, B: Blob>(
     }
 }
 
-/// The storages and streams that a message is written as: the name map, and the message at the top. [MS-OXMSG 2.1, 2.2, 2.4]
+/// The storages and streams that a message is written as: the name map, and the message at the top. NoMemory says that
+/// memory ran out. [MS-OXMSG 2.1 to 2.4]
 pub fn files_of<'t, B: Blob>(
     alloc: Global,
     tree: &'t Tree<B>,

@@ -6,7 +6,7 @@ use crate::stores::{Member, Store};
 use carrier_io::{Blob, NoMemory, copy_bytes};
 use std::alloc::Global;
 
-/// The same store over owned bytes.
+/// The same store over owned bytes. NoMemory says that memory ran out.
 #[cycle(copy_stores)]
 pub fn copy_store<B: Blob>(alloc: Global, store: &Store<B>) -> Result<Store<Vec<u8>>, NoMemory>
     ensures { IfOk result (λ r. store_of (λ v. v.items) r ≡ store_of B.bytes store.now) }

@@ -8,12 +8,12 @@ use std::alloc::Global;
 
 /// A blob that another may become, where there is memory. The bytes stay where they are.
 pub trait Keeps<B: Blob>: Blob {
-    /// The blob of another's bytes.
+    /// The blob of another's bytes. NoMemory says that memory ran out.
     fn keeping(alloc: Global, blob: B) -> Result<Self, NoMemory>
         ensures { IfOk result (λ r. Self.bytes r ≡ B.bytes blob) };
 }
 
-/// The same store over blobs that its own become.
+/// The same store over blobs that its own become. NoMemory says that memory ran out.
 #[cycle(held_stores)]
 pub fn held_store<B: Blob, C: Keeps<B>>(store: Store<B>) -> Result<Store<C>, NoMemory>
     ensures { IfOk result (λ r. store_of C.bytes r ≡ store_of B.bytes store) }

@@ -43,7 +43,8 @@ impl<B: Blob> Members<B> {
         Ok(())
     }
 
-    /// The store of them, in the order of siblings. Members whose names tie stay as they came. [MS-CFB 2.6.4]
+    /// The store of them, in the order of siblings. Members whose names tie stay as they came. NoMemory says that
+    /// memory ran out. [MS-CFB 2.6.4]
     pub fn into_store(self, class: [u8; 16]) -> Result<Store<B>, NoMemory>
         ensures { IfOk result (λ s. store_of B.bytes s ≡ record { class = class; members = in_order (gathered B.bytes self) }) }
     {

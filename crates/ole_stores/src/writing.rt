@@ -55,7 +55,7 @@ fn add_member<'t, B: Blob>(
 }
 
 /// The version 3 file of a store. TooLarge says that it has more bytes than an output may have, and how many; a number
-/// above the greatest `u64` stays there. [MS-CFB 2.2]
+/// above the greatest `u64` stays there. NoMemory says that memory ran out. [MS-CFB 2.2]
 pub fn store_plan<'t, B: Blob>(alloc: Global, store: &'t Store<B>) -> Result<Plan<'t, B>, PlanEnd>
     requires { IsStore (store_of B.bytes store.now) }
     ensures ok { IfOk result (λ p. p ≡ store_bytes (store_of B.bytes store.entry.now)) }

@@ -17,7 +17,7 @@ use translate_core::{Input, PutEnd, accept, write_msg};
 use tree_edit::{EditEnd, edited};
 use tree_text8::{TextEnd, unicode_of};
 
-/// Writes the .msg file of a message. [MS-OXMSG 2.1]
+/// Writes the .msg file of a message. [MS-OXMSG 2.3]
 pub fn write_file<B: Blob, O: Sink>(alloc: Global, tree: &Tree<B>, output: &mut O) -> Status
     ensures puts { (bytes : List ℕ) → PutsFile (plain_of tree.now) bytes (O.held output.old) (O.held output.new) result }
     ensures nothing { WritesNothing result output.old output.new }

@@ -56,7 +56,7 @@ pub fn json_bytes<O: Sink>(alloc: Global, bytes: &[u8], output: &mut O) -> Statu
     }
 }
 
-/// Writes the .msg file of the message that a JSON text means. [MS-OXMSG 2.1]
+/// Writes the .msg file of the message that a JSON text means. [MS-OXMSG 2.3]
 pub fn tree_bytes<O: Sink>(alloc: Global, bytes: &[u8], output: &mut O) -> Status
     requires { length bytes.now ≤ MOST_JSON }
     ensures told { TellsTree bytes.now (O.held output.old) (O.held output.new) result }

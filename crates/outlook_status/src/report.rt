@@ -46,7 +46,7 @@ fn write_limit<W: Sink>(sink: &mut W, limit: Limit) -> Result<(), Failed>
     }
 }
 
-/// Why a text isn't mapped, in a word.
+/// The front of the line of a text that isn't mapped, which says why.
 fn why_unmapped(why: Why) -> &'static [u8]
     ensures { result.now ≡ codes "unmapped " ++ why_text (why_of why) }
 {
@@ -85,7 +85,7 @@ fn write_undone<W: Sink>(sink: &mut W, fault: EditFault) -> Result<(), Failed>
     write_pieces(sink, why_undone(fault.why))
 }
 
-/// Why a JSON text means no message, in a word.
+/// The front of the line of a JSON text that means no message, which says why.
 fn why_no_tree(why: Shape) -> &'static [u8]
     ensures { result.now ≡ codes "json " ++ (shape_name (shape_of why) ++ codes " at ") }
 {
@@ -156,7 +156,8 @@ impl<'a> Writing for Line<'a> {
     }
 }
 
-/// Appends the line of a status, in one call of the sink.
+/// Appends the line of a status, in few calls of the sink. Failed says that the sink failed; then a front of it may stand
+/// there.
 pub fn write_report<W: Sink>(sink: &mut W, status: &Status) -> Result<(), Failed>
     ensures { Writes (W.held sink.old) (W.held sink.new) (W.faults sink.old) (W.faults sink.new) result (line_of status.now) }
 {

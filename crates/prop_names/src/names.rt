@@ -44,7 +44,7 @@ impl PartialEq for Name {
 }
 
 impl Name {
-    /// The name that a text is in a property set.
+    /// The name that a text is in a property set. NoMemory says that memory ran out.
     pub fn of_text(alloc: Global, set: Guid, units: Units) -> Result<Name, NoMemory>
         ensures { IfOk result (λ r. name_of r ≡ texted set.0 units) }
     {
@@ -87,7 +87,7 @@ impl Name {
         }
     }
 
-    /// An equal name.
+    /// An equal name. NoMemory says that memory ran out.
     pub fn copy(&self, alloc: Global) -> Result<Name, NoMemory>
         ensures { IfOk result (λ r. name_of r ≡ name_of self.now) }
     {

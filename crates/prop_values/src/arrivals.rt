@@ -78,7 +78,7 @@ impl<B: Blob> Arrivals<B> {
         }
     }
 
-    /// Puts a property behind all others, with its mark.
+    /// Puts a property behind all others, with its mark. The list is unchanged where memory is refused.
     pub fn push(&mut self, prop: Prop<B>, mark: u64) -> Result<(), NoMemory>
         ensures ok { OnOk result (self.new.props ≡ self.old.props ++ prop ∷ []) }
         ensures marked { OnOk result ((marks : List ℕ) → AreMarksOf self.old marks → AreMarksOf self.new (marks ++ mark ∷ [])) }
@@ -94,7 +94,8 @@ impl<B: Blob> Arrivals<B> {
         Ok(())
     }
 
-    /// The sorted list of them. It is the vector that they came into.
+    /// The sorted list of them. It is the vector that they came into. Duplicate has the mark of the first property
+    /// whose key and kind an earlier one has; NoMemory says that memory ran out.
     pub fn settle(self) -> Result<Props<B>, SettleEnd>
         ensures settled { IfOk result (λ r. (r ≡ with_elements plain.prop_cmp [] self.props) × AreDifferent self.props) }
         ensures refused { (marks : List ℕ) → AreMarksOf self marks → IfErr result (IsDoubleOf self.props marks) }

@@ -37,7 +37,7 @@ impl<'t, B: Blob> TnefPlan<'t, B> {
     ghost use Rattle.tnef_writer.specs.PlanViews.{tree_in};
 
     /// A plan of the tree. TooLarge says that its stream has more bytes than an output may have, and how many; a number
-    /// above the greatest `u64` stays there.
+    /// above the greatest `u64` stays there. NoMemory says that memory ran out.
     pub fn new(
         alloc: Global,
         tree: &'t Tree<B>,

@@ -16,7 +16,7 @@ use msg_storage::files_of;
 use msg_tree::{Limit, Tree, fits_msg, names};
 use std::alloc::Global;
 
-/// The .msg file of a tree, planned, unless the tree passes a limit. [MS-OXMSG 2.1]
+/// The .msg file of a tree, planned, unless the tree passes a limit. [MS-OXMSG 2.3]
 fn msg_plan<'t, B: Blob>(
     alloc: Global,
     version: Version,
@@ -45,7 +45,7 @@ fn msg_plan<'t, B: Blob>(
     }
 }
 
-/// Writes the canonical .msg file of a tree, in either version, unless the tree passes a limit. [MS-OXMSG 2.1]
+/// Writes the canonical .msg file of a tree, in either version, unless the tree passes a limit. [MS-OXMSG 2.3]
 pub(crate) fn write_file<B: Blob, W: Sink>(
     alloc: Global,
     version: Version,
@@ -67,7 +67,7 @@ pub(crate) fn write_file<B: Blob, W: Sink>(
 }
 
 /// Writes the canonical .msg file of a tree, of version 3. Unfit says which limit the tree passes, the first; nothing is
-/// written then, nor where memory is refused. [MS-OXMSG 2.1]
+/// written then, nor where memory is refused. [MS-OXMSG 2.3]
 pub fn write_msg<B: Blob, W: Sink>(
     alloc: Global,
     tree: &Tree<B>,
@@ -80,8 +80,8 @@ pub fn write_msg<B: Blob, W: Sink>(
     write_file(alloc, Version::Three, tree, sink)
 }
 
-/// The canonical .msg file of a tree, of version 3. Unfit says which limit the tree passes, the first in the order of names,
-/// recipients and attachments message by message, and bytes. [MS-OXMSG 2.1]
+/// The canonical .msg file of a tree, of version 3. Unfit says which limit the tree passes, the first in the order of
+/// names, recipients and attachments message by message, and bytes. NoMemory says that memory ran out. [MS-OXMSG 2.3]
 pub fn msg_bytes<B: Blob>(alloc: Global, tree: &Tree<B>) -> Result<Vec<u8>, MsgEnd>
     ensures ok { IfOk result (λ v. v.items ≡ msg_of (plain_of tree.now)) }
     ensures end { IfErr result (FileEnds 512 (plain_of tree.now)) }

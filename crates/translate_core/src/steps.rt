@@ -31,8 +31,9 @@ fn step_of(alloc: Global, step: u8, job: &Job, bytes: &[u8]) -> Result<Vec<u8>, 
     }
 }
 
-/// Takes the message of bytes in hand, in either form, through all forms: into a TNEF stream, that into a mail, out of the
-/// mail again, and that into a .msg file.
+/// Takes the message of bytes in hand, in either form, through all forms: into a TNEF stream, that into a mail, out of
+/// the mail again, and that into a .msg file. Refused has the first fault of the given bytes, Unfit the first step that
+/// passes a limit; NoMemory says that memory ran out.
 pub fn trip(alloc: Global, bytes: &[u8]) -> Result<Trip, TripEnd>
     requires { length bytes.now ≤ MOST_BYTES }
     ensures told { TellsTrip bytes.now result }

@@ -16,7 +16,7 @@ use carrier_io::Sink;
 use cfb_writer::Version;
 use std::alloc::Global;
 
-/// Writes the canonical .msg file of the message that bytes mean, in either version. [MS-OXMSG 2.1]
+/// Writes the canonical .msg file of the message that bytes mean, in either version. [MS-OXMSG 2.3]
 fn to_msg<W: Sink>(alloc: Global, version: Version, bytes: &[u8], sink: &mut W) -> Result<(), End>
     requires { length bytes.now ≤ MOST_BYTES }
     ensures told { Tells (file_job version) bytes.now (W.held sink.old) (W.held sink.new) result }

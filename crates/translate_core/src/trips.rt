@@ -12,7 +12,7 @@ pub struct Trip {
     pub envelope: Vec<u8>,
     /// The stream as it was taken out of the mail.
     pub carried: Vec<u8>,
-    /// The canonical .msg file of the message, of version 3. [MS-OXMSG 2.1]
+    /// The canonical .msg file of the message, of version 3. [MS-OXMSG 2.3]
     pub msg: Vec<u8>,
 }
 

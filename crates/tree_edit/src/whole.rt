@@ -12,7 +12,8 @@ use edit_words::Edits;
 use msg_tree::{Tree, copy_owned};
 use std::alloc::Global;
 
-/// The tree that edits make of another, over owned bytes, each of what those before it made.
+/// The tree that edits make of another, over owned bytes, each of what those before it made. Fault has the first edit
+/// that can't be done; NoMemory says that memory ran out.
 pub fn edited<B: Blob>(
     alloc: Global,
     tree: &Tree<B>,

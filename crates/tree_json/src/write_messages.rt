@@ -101,7 +101,7 @@ fn write_attachment<B: Blob>(
     }
 }
 
-/// The JSON text of a tree, without spaces. [RFC 8259]
+/// The JSON text of a tree, without spaces. NoMemory says that memory ran out. [RFC 8259]
 pub fn json_of<B: Blob>(alloc: Global, tree: &Tree<B>) -> Result<String, NoMemory>
     ensures text { IfOk result (λ s. string_bytes s ≡ json_text (plain_of tree.now)) }
     ensures means { IfOk result (λ s. TextMeansTree (string_bytes s) (plain_of tree.now)) }

@@ -52,7 +52,7 @@ fn attachments(alloc: Global, levels: u32) -> Result<Attachments<Vec<u8>>, NoMem
 }
 
 /// The tree of a number: three properties and so many named ones, up to 2,048 recipients, and up to 32 attachments with
-/// data, with as many levels of messages.
+/// data, with as many levels of messages. NoMemory says that memory ran out.
 pub fn sample(alloc: Global, number: u32) -> Result<Tree<Vec<u8>>, NoMemory>
     requires { number ≤ GREATEST_SAMPLE }
     ensures { IfOk result (λ tree. plain_of tree ≡ sample_tree number) }

@@ -52,7 +52,7 @@ pub fn write_counts<B: Blob, W: Sink>(
     write_count(sink, b"depth", totals.depth)
 }
 
-/// The word for what was passed over.
+/// The front of the line of what was passed over.
 fn word_of(passed: Passed) -> &'static [u8]
     ensures { result.now ≡ passed_word passed.attribute }
 {

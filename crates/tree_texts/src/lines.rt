@@ -30,7 +30,7 @@ pub fn write_word_line<W: Sink>(sink: &mut W, indent: usize, word: &[u8]) -> Res
     write_parts(sink, &[word, b"\n"])
 }
 
-/// Appends a word and a number.
+/// Appends a word and a number. Failed says that the sink failed; then a front of them may stand there.
 pub fn write_counted<W: Sink>(sink: &mut W, word: &[u8], n: u64) -> Result<(), Failed>
     ensures { Writes (W.held sink.old) (W.held sink.new) (W.faults sink.old) (W.faults sink.new) result (counted word.now n) }
 {

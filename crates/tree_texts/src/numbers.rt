@@ -28,7 +28,7 @@ fn write_step<W: Sink>(sink: &mut W, n: u64) -> Result<(), Failed>
     write_decimal(sink, n)
 }
 
-/// Appends numbers, with a slash before each.
+/// Appends numbers, with a slash before each. Failed says that the sink failed; then a front of them may stand there.
 pub fn write_slashed<W: Sink>(sink: &mut W, list: &Numbers) -> Result<(), Failed>
     ensures { Writes (W.held sink.old) (W.held sink.new) (W.faults sink.old) (W.faults sink.new) result (flat_map (λ n. codes "/" ++ decimal n) list.now) }
 {
