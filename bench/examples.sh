@@ -58,8 +58,9 @@ line end.msg" && has messages/damaged.why "$refusal" && [ "$(ls messages | grep 
 }
 
 check_README_2() {
-    same done/plain.msg && same "done/with a space and a
-line end.msg" && has done/damaged.why "$refusal" && [ "$(find done -name '*.why' | wc -l)" = 1 ] && [ ! -e done/damaged.msg ]
+    same done/messages/plain.msg && same "done/messages/with a space and a
+line end.msg" && has done/messages/damaged.why "$refusal" && [ "$(find done -name '*.why' | wc -l)" = 1 ] \
+        && [ ! -e done/messages/damaged.msg ]
 }
 
 check_README_3() { cmp message.msg old.msg; }
