@@ -1,6 +1,5 @@
 -- Loops that append: what stands there, and what is to come.
 use Rattle.std.proofs.Common.{◌≡◌, ℕ, zero, suc, ◌+◌, ◌%◌, ◌<◌, List, [], ◌∷◌, ◌++◌, length, get_or, drop, Option, Result, Ok, Err, refl, sym, ap, subst, ◌∙◌, append_assoc, arith}
-use Rattle.std.specs.Prelude.{replicate}
 use Rattle.std.specs.Result.{IsErr}
 use Rattle.std.specs.List.{flat_map}
 use Rattle.std.proofs.lemmas.List.{drop_more}
@@ -8,8 +7,8 @@ use Rattle.std.proofs.lemmas.List.Concat.{flat_map-append}
 use Rattle.carrier_model.specs.Bytes.{le32}
 use Rattle.carrier_model.specs.Layout.{words_bytes}
 use Rattle.carrier_io.specs.declared.failures.Failed.{Failed}
-use Rattle.cfb_writer.specs.Summed.{Sums}
-use Rattle.cfb_writer.proofs.Summed.{sums_nothing, sums_both, sums_first, sums_second}
+use Rattle.carrier_io.specs.Summed.{Sums}
+use Rattle.carrier_io.proofs.Summed.{sums_nothing, sums_both, sums_first, sums_second}
 
 -- a front of the bytes stands there, with its sum, and the rest is to come
 pub record Going (a b : Option (List ℕ)) (n m s : ℕ) (all rest : List ℕ) : Type 0 where
@@ -25,12 +24,6 @@ going_more r x more e sum g p = record { front = g.front ++ x; parts = g.parts �
 
 pub going_stops : {a b c : Option (List ℕ)} {n m k s : ℕ} {all rest : List ℕ} {r : Result ℕ Failed} {f : Failed} (x more : List ℕ) → rest ≡ x ++ more → IsErr r → Going a b n m s all rest → Sums {E = Failed} b c m k (Err f) x → Sums {E = Failed} a c n k r all
 going_stops {f = f} x more e err g p = rw (g.parts ∙ ap (λ (z : List ℕ). g.front ++ z) e) (sums_second err g.sums (sums_first {r = Err f} more refl p))
-
--- zeros in two parts
-pub zeros-parts : (n m k : ℕ) → n ≡ m + k → replicate {A = ℕ} n 0 ≡ replicate {A = ℕ} m 0 ++ replicate {A = ℕ} k 0
-zeros-parts n zero k e = let same : n ≡ k = omega (arith, e) in ap (λ (i : ℕ). replicate {A = ℕ} i 0) same
-zeros-parts zero (suc m) k e = absurd (omega (arith, e))
-zeros-parts (suc n) (suc m) k e = ap (λ (z : List ℕ). 0 ∷ z) (zeros-parts n m k (omega (arith, e)))
 
 -- an item, and those behind it
 pub item_then : {X : Type 0} (f : X → List ℕ) (xs : List X) (k : ℕ) (d : X) → k < length xs → flat_map f (drop k xs) ≡ f (get_or xs k d) ++ flat_map f (drop (k + 1) xs)

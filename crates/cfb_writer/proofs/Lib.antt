@@ -11,6 +11,5 @@ pub mod Rooms
 pub mod RunWords
 pub mod Shared
 pub mod Sides
-pub mod Summed
 pub mod Tables
 pub mod Joins

@@ -9,6 +9,5 @@ pub mod PlanKept
 pub mod Planned
 pub mod Runs
 pub mod Shares
-pub mod Summed
 pub mod Totals
 pub mod Versions

@@ -7,7 +7,7 @@ ghost use Rattle.cfb_list.specs.Contents.{content_bytes};
 ghost use Rattle.cfb_writer.specs.Entered.{slot_seen, record_bytes, stream_start};
 ghost use Rattle.cfb_writer.specs.Laid.{bytes_of, IsShort, root_slot, slots_in, others_of};
 ghost use Rattle.cfb_writer.specs.Numbered.{plan_seen, IsSmall, IsPlanFor};
-ghost use Rattle.cfb_writer.specs.Summed.{Sums};
+ghost use Rattle.carrier_io.specs.Summed.{Sums};
 ghost use Rattle.cfb_writer.specs.Shares.{share_total};
 ghost use Rattle.cfb_writer.specs.Versions.{sector_of};
 
@@ -125,7 +125,7 @@ fn append_entry<B: Blob, W: Sink>(
 }
 
 /// Appends the entries beside the root, where the first streams begin there.
-pub fn append_entries<B: Blob, W: Sink>(
+fn append_entries<B: Blob, W: Sink>(
     sink: &mut W,
     version: Version,
     entries: &Entries<'_, B>,

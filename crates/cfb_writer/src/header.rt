@@ -2,14 +2,14 @@
 ghost use Rattle.std.specs.Prelude.{◌≡◌, ◌≤◌, ◌+◌, ◌++◌};
 ghost use Rattle.carrier_model.specs.Layout as layout;
 ghost use Rattle.cfb_writer.specs.Numbered.{plan_seen, IsSmall};
-ghost use Rattle.cfb_writer.specs.Summed.{Sums};
+ghost use Rattle.carrier_io.specs.Summed.{Sums};
 ghost use Rattle.cfb_writer.specs.Versions.{sector_of};
 
-use crate::appending::{append_parts, append_zeros};
+use crate::appending::append_parts;
 use crate::numbers::Numbers;
 use crate::runs::{END, FREE, Run, append_runs};
 use crate::version::Version;
-use carrier_io::{Failed, Sink, le32};
+use carrier_io::{Failed, Sink, append_zeros, le32};
 
 /// Signature, class, versions, byte order and the powers of two, for sectors of 512 bytes. [MS-CFB 2.2]
 const FRONT_THREE: [u8; 40] = [

@@ -38,7 +38,7 @@ fn entries_of<B: Blob>(kind: &Kind<'_, B>, totals: &[Totals]) -> u64
 }
 
 /// The numbers of what is in a storage, where the first has this one.
-pub fn sibling_numbers<B: Blob>(
+fn sibling_numbers<B: Blob>(
     alloc: Global,
     list: &FileList<'_, B>,
     totals: &[Totals],

@@ -3,10 +3,9 @@ ghost use Rattle.std.specs.Prelude.{◌≡◌, ◌<◌, ◌≤◌, ◌+◌, ◌^
 ghost use Rattle.std.specs.List.{AllByRecursion, flat_map};
 ghost use Rattle.carrier_model.specs.Layout as layout;
 ghost use Rattle.cfb_writer.specs.Runs.{words_of, word_at, last_of};
-ghost use Rattle.cfb_writer.specs.Summed.{Sums};
+ghost use Rattle.carrier_io.specs.Summed.{Sums};
 
-use crate::appending::append;
-use carrier_io::{Failed, Sink, le32};
+use carrier_io::{Failed, Sink, append, le32};
 
 /// The end of a chain. [MS-CFB 2.1]
 pub const END: u32 = 0xFFFF_FFFE;

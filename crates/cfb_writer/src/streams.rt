@@ -6,12 +6,12 @@ ghost use Rattle.cfb_list.specs.Contents.{content_bytes, child_named};
 ghost use Rattle.cfb_writer.specs.Laid.{bytes_of};
 ghost use Rattle.cfb_writer.specs.Placed.{slot_of};
 ghost use Rattle.cfb_writer.specs.Shares as shares;
-ghost use Rattle.cfb_writer.specs.Summed.{Sums};
+ghost use Rattle.carrier_io.specs.Summed.{Sums};
 
-use crate::appending::{append_content, append_zeros};
+use crate::appending::append_content;
 use crate::entries::Entries;
 use crate::runs::{Run, append_run};
-use carrier_io::{Blob, Failed, Sink};
+use carrier_io::{Blob, Failed, Sink, append_zeros};
 use cfb_list::{Content, Kind};
 
 /// Some of the streams.

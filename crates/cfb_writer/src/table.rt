@@ -3,7 +3,7 @@ ghost use Rattle.std.specs.Prelude.{◌≡◌, ◌≤◌, ◌<◌, ◌+◌};
 ghost use Rattle.carrier_model.specs.Layout as layout;
 ghost use Rattle.cfb_writer.specs.Laid.{slots_in};
 ghost use Rattle.cfb_writer.specs.Numbered.{plan_seen, front_words, next_list, IsSmall, IsPlanFor};
-ghost use Rattle.cfb_writer.specs.Summed.{Sums};
+ghost use Rattle.carrier_io.specs.Summed.{Sums};
 ghost use Rattle.cfb_writer.specs.Versions.{sector_of};
 
 use crate::entries::Entries;

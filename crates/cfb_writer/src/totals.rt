@@ -23,7 +23,7 @@ pub struct Totals {
 }
 
 /// Nothing.
-pub const NOTHING: Totals = Totals {
+const NOTHING: Totals = Totals {
     entries: 0,
     mini: 0,
     long: 0,
@@ -45,7 +45,7 @@ impl Totals {
 }
 
 /// The mini sectors of a content.
-pub fn mini_of<B: Blob>(content: &Content<'_, B>) -> u64
+fn mini_of<B: Blob>(content: &Content<'_, B>) -> u64
     ensures { result ≡ mini_pieces (content_bytes B.bytes content.now) }
 {
     if content.is_short() {
@@ -56,7 +56,7 @@ pub fn mini_of<B: Blob>(content: &Content<'_, B>) -> u64
 }
 
 /// The sectors of a content.
-pub fn long_of<B: Blob>(version: Version, content: &Content<'_, B>) -> u64
+fn long_of<B: Blob>(version: Version, content: &Content<'_, B>) -> u64
     ensures { result ≡ long_pieces (sector_of version) (content_bytes B.bytes content.now) }
 {
     if content.is_long() {

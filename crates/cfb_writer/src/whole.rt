@@ -4,10 +4,9 @@ ghost use Rattle.std.specs.List.{AllByRecursion};
 ghost use Rattle.carrier_model.specs.Layout as layout;
 ghost use Rattle.cfb_writer.specs.Laid.{slots_in, others_of, IsShort};
 ghost use Rattle.cfb_writer.specs.Numbered.{plan_seen, IsSmall, IsPlanFor};
-ghost use Rattle.cfb_writer.specs.Summed.{Sums};
+ghost use Rattle.carrier_io.specs.Summed.{Sums};
 ghost use Rattle.cfb_writer.specs.Versions.{sector_of};
 
-use crate::appending::append_zeros;
 use crate::directory::append_directory;
 use crate::entries::Entries;
 use crate::header::append_header;
@@ -15,7 +14,7 @@ use crate::numbers::Numbers;
 use crate::streams::{Share, append_streams};
 use crate::table::{append_lists, append_mini_table, append_table};
 use crate::version::Version;
-use carrier_io::{Blob, Failed, Sink};
+use carrier_io::{Blob, Failed, Sink, append_zeros};
 
 /// Appends the header, the table and the sectors that list it.
 fn append_tables<B: Blob, W: Sink>(

@@ -67,7 +67,7 @@ fn is_properties(name: &[u16]) -> bool
 
 /// Whether names are short and stand in the order of siblings, and at most so many storages one below another.
 #[cycle(shape)]
-pub fn fits_within<B: Blob>(store: &Store<B>, storages: u64) -> bool
+fn fits_within<B: Blob>(store: &Store<B>, storages: u64) -> bool
     ensures { IsTrue result ↔ FitsWithin storages (store_of B.bytes store.now) }
 {
     let _bytes = class_bytes(store.class());

@@ -9,20 +9,26 @@ mod telling;
 mod words;
 
 use carrier_io::{StdSink, StdSource};
+use outlook_status::Status;
 use run::run;
 use std::process::ExitCode;
 use std::{env, io};
 use words::words_of;
 
+/// The exit code where a word is not UTF-8.
+const NOT_UTF8: u8 = 10;
+
 fn main(rt: HostRuntime) -> ExitCode {
     let args = match env::args(&rt) {
         Ok(args) => args,
-        Err(e) if e.kind() == io::ErrorKind::OutOfMemory => return ExitCode::from(6),
-        Err(_) => return ExitCode::from(10),
+        Err(e) if e.kind() == io::ErrorKind::OutOfMemory => {
+            return ExitCode::from(Status::NoMemory.code());
+        }
+        Err(_) => return ExitCode::from(NOT_UTF8),
     };
     let words = match words_of(rt.alloc(), args) {
         Ok(words) => words,
-        Err(_) => return ExitCode::from(6),
+        Err(_) => return ExitCode::from(Status::NoMemory.code()),
     };
     let mut input = StdSource::new(rt.stdin());
     let mut output = StdSink::new(rt.stdout());

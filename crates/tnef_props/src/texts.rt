@@ -13,7 +13,7 @@ use prop_values::Kind;
 use std::alloc::Global;
 
 /// Whether the size of a text of the kind is even.
-pub fn is_even(kind: Kind) -> bool
+fn is_even(kind: Kind) -> bool
     ensures { result ≡ nat_eq (kind_number kind) 0x001F }
 {
     match kind {

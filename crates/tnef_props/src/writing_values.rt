@@ -108,7 +108,7 @@ fn append_texts<B: Blob, W: Sink>(sink: &mut W, null: usize, list: &Parts<B>) ->
 }
 
 /// How many elements a value says that it has; none where it says nothing.
-pub fn count_of<B: Blob>(value: &Value<B>) -> Option<usize>
+fn count_of<B: Blob>(value: &Value<B>) -> Option<usize>
     ensures { result ≡ counted (value_of B.bytes value.now) }
 {
     match value {

@@ -1,6 +1,6 @@
 use Rattle.std.proofs.Common.{ℕ}
 use Rattle.std.specs.Prelude.{replicate}
-use Rattle.cfb_writer.proofs.Summed.{sums_first, sums_second}
+use Rattle.carrier_io.proofs.Summed.{sums_first, sums_second}
 use Rattle.cfb_writer.proofs.appending.append_content.Goals as goal
 
 pub returns-in_err-value-in-Value : goal.returns-in_err-value-in-Value

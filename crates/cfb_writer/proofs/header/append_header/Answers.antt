@@ -6,7 +6,7 @@ use Rattle.cfb_writer.specs.Numbered.{plan_seen}
 use Rattle.cfb_writer.specs.Versions.{sector_of}
 use Rattle.cfb_writer.proofs.Going.{as_bytes}
 use Rattle.cfb_writer.proofs.HeaderList.{list_is}
-use Rattle.cfb_writer.proofs.Summed.{sums_both, sums_first, sums_second}
+use Rattle.carrier_io.proofs.Summed.{sums_both, sums_first, sums_second}
 use Rattle.cfb_writer.proofs.header.append_header.Goals as goal
 
 pub returns-in_err-counts : goal.returns-in_err-counts

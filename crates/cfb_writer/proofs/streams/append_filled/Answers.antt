@@ -3,7 +3,7 @@ use Rattle.std.specs.Prelude.{replicate}
 use Rattle.carrier_model.specs.Layout.{pieces}
 use Rattle.cfb_list.specs.Contents.{content_bytes}
 use Rattle.cfb_writer.proofs.Going.{as_bytes}
-use Rattle.cfb_writer.proofs.Summed.{sums_first, sums_second}
+use Rattle.carrier_io.proofs.Summed.{sums_first, sums_second}
 use Rattle.cfb_writer.proofs.streams.append_filled.Goals as goal
 
 pub returns-in_err-bytes : goal.returns-in_err-bytes

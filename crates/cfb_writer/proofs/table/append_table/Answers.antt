@@ -6,7 +6,7 @@ use Rattle.cfb_writer.specs.Laid.{slots_in}
 use Rattle.cfb_writer.specs.Numbered.{plan_seen}
 use Rattle.cfb_writer.specs.Versions.{sector_of}
 use Rattle.cfb_writer.proofs.Going.{as_bytes}
-use Rattle.cfb_writer.proofs.Summed.{sums_both, sums_first, sums_second}
+use Rattle.carrier_io.proofs.Summed.{sums_both, sums_first, sums_second}
 use Rattle.cfb_writer.proofs.Tables.{enough, table_is}
 use Rattle.cfb_writer.proofs.table.append_table.Goals as goal
 

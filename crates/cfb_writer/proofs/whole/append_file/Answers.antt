@@ -5,7 +5,7 @@ use Rattle.cfb_writer.specs.Laid.{slots_in}
 use Rattle.cfb_writer.specs.Numbered.{plan_seen}
 use Rattle.cfb_writer.specs.Versions.{sector_of}
 use Rattle.cfb_writer.proofs.Going.{as_bytes}
-use Rattle.cfb_writer.proofs.Summed.{sums_both, sums_first, sums_second}
+use Rattle.carrier_io.proofs.Summed.{sums_both, sums_first, sums_second}
 use Rattle.cfb_writer.proofs.Joins.{parts_are}
 use Rattle.cfb_writer.proofs.whole.append_file.Goals as goal
 

@@ -4,7 +4,7 @@ use Rattle.carrier_model.specs.Layout.{difat_bytes, table_of, words_bytes}
 use Rattle.cfb_writer.specs.Laid.{slots_in}
 use Rattle.cfb_writer.specs.Numbered.{plan_seen}
 use Rattle.cfb_writer.specs.Versions.{sector_of}
-use Rattle.cfb_writer.proofs.Summed.{sums_both, sums_first, sums_second}
+use Rattle.carrier_io.proofs.Summed.{sums_both, sums_first, sums_second}
 use Rattle.cfb_writer.proofs.whole.append_tables.Goals as goal
 
 pub returns-in_err-header : goal.returns-in_err-header
