@@ -8,33 +8,33 @@ ghost use Rattle.outlook_cli.specs.Outcome.{PutsJson, TellsJson, TellsTree, Writ
 
 use crate::changing::write_file;
 use crate::telling::stopped;
-use carrier_io::{Blob, Sink, write_pieces};
+use carrier_io::{Blob, Sink, write_gathered};
 use msg_tree::{Limit, Tree};
 use outlook_status::Status;
 use std::alloc::Global;
 use translate_core::{Input, accept};
 use tree_from_json::{JsonEnd, tree_of};
-use tree_json::json_of;
+use tree_json::{JsonText, json_length};
 
 /// The most bytes of a JSON text.
 pub const JSON_LIMIT: usize = 33_554_432;
 
-/// Writes the JSON text of a message, unless it is too long. [RFC 8259]
-fn write_json<B: Blob, O: Sink>(alloc: Global, tree: &Tree<B>, output: &mut O) -> Status
+/// Writes the JSON text of a message, unless it is too long: it is measured first, and then written as it comes.
+/// [RFC 8259]
+fn write_json<B: Blob, O: Sink>(tree: &Tree<B>, output: &mut O) -> Status
     ensures puts { PutsJson (plain_of tree.now) (O.held output.old) (O.held output.new) result }
     ensures nothing { WritesNothing result output.old output.new }
     ensures fault { result ≡ Status.WriteFault → Rose (O.faults output.old) (O.faults output.new) }
     ensures no_usage { result ≡ Status.Usage → ⊥ }
     ensures no_read_fault { result ≡ Status.ReadFault → ⊥ }
 {
-    let Ok(text) = json_of(alloc, tree) else {
+    let Ok(length) = json_length(tree) else {
         return Status::NoMemory;
     };
-    let bytes = text.as_bytes();
-    if bytes.len() > JSON_LIMIT {
-        return Status::Unfit(Limit::Size(bytes.len() as u64));
+    if length > JSON_LIMIT as u64 {
+        return Status::Unfit(Limit::Size(length));
     }
-    match write_pieces(output, bytes) {
+    match write_gathered(&JsonText { tree }, output) {
         Ok(()) => Status::Done,
         Err(_) => Status::WriteFault,
     }
@@ -51,8 +51,8 @@ pub fn json_bytes<O: Sink>(alloc: Global, bytes: &[u8], output: &mut O) -> Statu
 {
     match accept(alloc, bytes) {
         Err(stop) => stopped(stop),
-        Ok(Input::Msg(accepted)) => write_json(alloc, &accepted.tree, output),
-        Ok(Input::Tnef(accepted)) => write_json(alloc, &accepted.tree, output),
+        Ok(Input::Msg(accepted)) => write_json(&accepted.tree, output),
+        Ok(Input::Tnef(accepted)) => write_json(&accepted.tree, output),
     }
 }
 

@@ -30,7 +30,10 @@ use Rattle.json_model.specs.StoreForms.{Entry, storage_entry, stream_entry, path
 use Rattle.json_model.specs.Texts.{text_json, name_json, utf8_of}
 use Rattle.json_model.proofs.Meant.{by_turns}
 use Rattle.json_model.proofs.Nesting.{json_within}
-use Rattle.tree_json.specs.Tokens.{tokens_of}
+
+-- the tokens of a value
+abbrev pub tokens_of : Data → List Token
+tokens_of d = shape.json_tokens (outline d)
 
 -- ---- lists
 
@@ -43,7 +46,7 @@ listed_return : {A : Type 0} (f : A → Data) (P : A → Type 0) → ((x : A) �
     → of_json (outline (listed_json (map f xs))) ≡ Some (listed_json (map f xs))
 listed_return f P each xs h = ap (option_map array) (items_return f P each xs h)
 
-any_turns : {A : Type 0} (xs : List A) → AllByRecursion (λ _. Unit {0}) xs
+pub any_turns : {A : Type 0} (xs : List A) → AllByRecursion (λ _. Unit {0}) xs
 any_turns [] = tt
 any_turns (x ∷ xs) = (tt, any_turns xs)
 
@@ -60,13 +63,13 @@ both_true : (a b : Bool) → (a && b) ≡ true → (a ≡ true) × (b ≡ true)
 both_true true b h = (refl, h)
 both_true false b h = absurd (true≢false (sym h))
 
-small_among : (rows : List (ℕ × ℕ)) → list_all (λ (row : ℕ × ℕ). nat_le row.1 8) rows ≡ true → (n : ℕ) → unwrap_or (looked_up rows n) 0 ≤ 8
+pub small_among : (rows : List (ℕ × ℕ)) → list_all (λ (row : ℕ × ℕ). nat_le row.1 8) rows ≡ true → (n : ℕ) → unwrap_or (looked_up rows n) 0 ≤ 8
 small_among [] all n = omega arith
 small_among (row ∷ rows) all n =
     let both = both_true (nat_le row.1 8) (list_all (λ (r : ℕ × ℕ). nat_le r.1 8) rows) all in
     small_at row.1 (row.0 == n) (looked_up rows n) both.0 (small_among rows both.1 n)
 
-below_all : (w n : ℕ) → w ≤ 8 → n < 2 ^ (8 * w) → n < 2 ^ 64
+pub below_all : (w n : ℕ) → w ≤ 8 → n < 2 ^ (8 * w) → n < 2 ^ 64
 below_all w n few h =
     let some : zero < 2 = omega arith in
     let wide : 8 * w ≤ 64 = omega (arith, few) in

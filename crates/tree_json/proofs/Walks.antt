@@ -1,20 +1,22 @@
 -- Walks over the members of a store, and over attachments.
-use Rattle.std.proofs.Common.{◌≡◌, ◌∙◌, ap, refl, sym, subst, ℕ, zero, suc, ◌+◌, ◌*◌, ◌/◌, ◌≤◌, ◌<◌, List, [], ◌∷◌, ◌++◌, length, map, take, take_all, get_or, Some, arith}
-use Rattle.std.specs.Prelude.{slice_get, IfSome}
+use Rattle.std.proofs.Common.{◌≡◌, ◌∙◌, ap, refl, sym, subst, ℕ, zero, suc, ◌+◌, ◌*◌, ◌/◌, ◌≤◌, ◌<◌, List, [], ◌∷◌, ◌++◌, length, map, take, take_all, drop, get_or, Some, Bool, true, true≢false, arith}
+use Rattle.std.specs.Prelude.{slice_get, IfSome, ◌||◌, nat_lt}
 use Rattle.std.specs.List.{flat_map}
 use Rattle.std.proofs.lemmas.Grind.{flat_map-append}
-use Rattle.std.proofs.lemmas.List.{append-nil, map-append, append_assoc}
+use Rattle.std.proofs.lemmas.List.{append-nil, map-append, append_assoc, take-append-drop}
 use Rattle.carrier_model.proofs.Messages.{taken_at}
 use Rattle.carrier_model.specs.Bytes.{units_of}
 use Rattle.carrier_model.specs.FileTrees as trees
 use Rattle.carrier_model.specs.FileTrees.{FileTree, Member, Named, bytes_at, store_at, files_listed, storage_depth}
 use Rattle.carrier_model.specs.Tree.{Attached, attachments_from}
-use Rattle.json.specs.Token.{Token}
+use Rattle.serde_json.specs.Data.{Data}
 use Rattle.serde_json.specs.View.{items_of}
+use Rattle.serde_json.specs.Written.{compact_text, comma_if}
 use Rattle.json_model.specs.MessageForms.{attachments_json, attachment_json}
-use Rattle.json_model.specs.StoreForms.{Entry, entry_json, entries_below}
+use Rattle.json_model.specs.StoreForms.{Entry, stream_entry, storage_entry, entry_json, entries_below}
 use Rattle.tree_json.specs.Listing.{member_entries}
-use Rattle.tree_json.specs.Tokens.{tokens_of, tokens_of_all}
+use Rattle.tree_json.specs.Lists.{behind}
+use Rattle.tree_json.proofs.Lists.{filled, behind-append, some_before}
 
 -- ---- stores
 
@@ -55,18 +57,64 @@ entries_joined above trees.no_file = refl
 entries_joined above (trees.stream name bytes others) = rw (entries_joined above others) refl
 entries_joined above (trees.storage name class inside others) = rw (entries_joined above others) refl
 
--- one member more
-pub entries_more : (above path : List (List ℕ)) (xs : List Named) (k : ℕ) (n : List ℕ) (m : Member) (start now next : List Token)
-    → now ≡ start ++ tokens_of_all (map entry_json (flat_map (entries_at above) (take k xs))) → slice_get xs k ≡ Some (n, m) → path ≡ above ++ n ∷ []
-    → next ≡ now ++ tokens_of_all (map entry_json (member_entries path m)) → next ≡ start ++ tokens_of_all (map entry_json (flat_map (entries_at above) (take (k + 1) xs)))
-entries_more above path xs k n m start now next h at p e =
+-- the members up to a place have so many
+entries_front : (above : List (List ℕ)) (xs : List Named) (k : ℕ) (x : Named) → slice_get xs k ≡ Some x → flat_map (entries_at above) (take (k + 1) xs) ≡ flat_map (entries_at above) (take k xs) ++ entries_at above x
+entries_front above xs k x at =
+    ap (flat_map (entries_at above)) (taken_at xs k x at)
+    ∙ (flat_map-append (entries_at above) (take k xs) (x ∷ []) ∙ ap (λ (l : List Entry). flat_map (entries_at above) (take k xs) ++ l) (append-nil (entries_at above x)))
+
+abbrev pub texts_at : Bool → List (List ℕ) → List Named → List ℕ
+texts_at later above xs = behind later (map entry_json (flat_map (entries_at above) xs))
+
+some_entries : (path : List (List ℕ)) (m : Member) → filled (map entry_json (member_entries path m)) ≡ true
+some_entries path (bytes_at x) = refl
+some_entries path (store_at inner) = refl
+
+filled_more : (xs ys : List Data) → filled xs ≡ true → filled (xs ++ ys) ≡ true
+filled_more [] ys h = absurd (true≢false (sym h))
+filled_more (x ∷ xs) ys h = refl
+
+filled_entries : (above : List (List ℕ)) (xs : List Named) (k : ℕ) (x : Named) → slice_get xs k ≡ Some x → filled (map entry_json (flat_map (entries_at above) (take k xs))) ≡ nat_lt 0 k
+filled_entries above xs zero x at = refl
+filled_entries above [] (suc k) x at = absurd cc
+filled_entries above (y ∷ ys) (suc k) x at =
+    ap filled (map-append entry_json (entries_at above y) (flat_map (entries_at above) (take k ys)))
+    ∙ filled_more (map entry_json (entries_at above y)) (map entry_json (flat_map (entries_at above) (take k ys))) (some_entries (above ++ y.0 ∷ []) y.1) ∙ some_before k
+
+-- one member more, in print
+pub texts_more : (later : Bool) (above : List (List ℕ)) (xs : List Named) (k : ℕ) (x : Named) → slice_get xs k ≡ Some x
+    → texts_at later above (take (k + 1) xs) ≡ texts_at later above (take k xs) ++ behind (later || nat_lt 0 k) (map entry_json (entries_at above x))
+texts_more later above xs k x at =
     let front = flat_map (entries_at above) (take k xs) in
-    let one = member_entries (above ++ n ∷ []) m in
-    let joined : flat_map (entries_at above) (take (k + 1) xs) ≡ front ++ one =
-    ap (flat_map (entries_at above)) (taken_at xs k (n, m) at) ∙ (flat_map-append (entries_at above) (take k xs) ((n, m) ∷ []) ∙ ap (λ (l : List Entry). front ++ l) (append-nil one)) in
-    e ∙ ((λ i. h i ++ tokens_of_all (map entry_json (member_entries (p i) m)))
-    ∙ (append_assoc start (tokens_of_all (map entry_json front)) (tokens_of_all (map entry_json one))
-    ∙ ap (λ (l : List Token). start ++ l) (sym (flat_map-append tokens_of (map entry_json front) (map entry_json one)) ∙ ap tokens_of_all (sym (map-append entry_json front one) ∙ ap (map entry_json) (sym joined)))))
+    let one = entries_at above x in
+    ap (λ l. behind later (map entry_json l)) (entries_front above xs k x at) ∙ ap (behind later) (map-append entry_json front one)
+    ∙ behind-append later (map entry_json front) (map entry_json one)
+    ∙ ap (λ b. behind later (map entry_json front) ++ behind (later || b) (map entry_json one)) (filled_entries above xs k x at)
+
+-- and what is behind it
+pub texts_parts : (later : Bool) (above : List (List ℕ)) (xs : List Named) (k : ℕ) (x : Named) → slice_get xs k ≡ Some x
+    → (z : List ℕ) × (texts_at later above xs ≡ texts_at later above (take k xs) ++ (behind (later || nat_lt 0 k) (map entry_json (entries_at above x)) ++ z))
+texts_parts later above xs k x at =
+    let front = flat_map (entries_at above) (take (k + 1) xs) in
+    let rest = flat_map (entries_at above) (drop (k + 1) xs) in
+    let z = behind (later || filled (map entry_json front)) (map entry_json rest) in (
+      z,
+      ap (λ l. behind later (map entry_json l)) (ap (flat_map (entries_at above)) (sym (take-append-drop (k + 1) xs)) ∙ flat_map-append (entries_at above) (take (k + 1) xs) (drop (k + 1) xs))
+          ∙ ap (behind later) (map-append entry_json front rest) ∙ behind-append later (map entry_json front) (map entry_json rest)
+          ∙ ap (λ (l : List ℕ). l ++ z) (texts_more later above xs k x at)
+          ∙ append_assoc (texts_at later above (take k xs)) (behind (later || nat_lt 0 k) (map entry_json (entries_at above x))) z,
+    )
+
+pub all_texts : (later : Bool) (above : List (List ℕ)) (f : FileTree) → texts_at later above (files_listed f) ≡ behind later (map entry_json (entries_below above f))
+all_texts later above f = ap (λ l. behind later (map entry_json l)) (entries_joined above f)
+
+-- a member begins with its comma
+pub member_front : (later : Bool) (path : List (List ℕ)) (m : Member) → (z : List ℕ) × (behind later (map entry_json (member_entries path m)) ≡ comma_if later ++ z)
+member_front later path (bytes_at x) = (compact_text (entry_json (stream_entry path x)) ++ [], refl)
+member_front later path (store_at inner) = (compact_text (entry_json (storage_entry path inner.class)) ++ behind true (map entry_json (entries_below path inner.members)), refl)
+
+pub stream_member : (later : Bool) (path : List (List ℕ)) (x : List ℕ) → comma_if later ++ compact_text (entry_json (stream_entry path x)) ≡ behind later (map entry_json (member_entries path (bytes_at x)))
+stream_member later path x = ap (λ (z : List ℕ). comma_if later ++ z) (sym (append-nil (compact_text (entry_json (stream_entry path x)))))
 
 -- ---- attachments
 

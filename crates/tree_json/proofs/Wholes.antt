@@ -1,21 +1,24 @@
 -- What is whole, list by list, is a tree of bytes.
 use Rattle.std.proofs.Common.{◌≡◌, ℕ, zero, suc, ◌+◌, ◌<◌, ◌≤◌, ◌^◌, List, [], ◌∷◌, ◌++◌, length, take, take_all, get_or, Some, sym, subst, ◌∙◌, arith}
-use Rattle.std.specs.Prelude.{slice_get, All}
+use Rattle.std.specs.Prelude.{slice_get, All, Result, Ok, Err, OnOk}
 use Rattle.std.specs.List.{AllByRecursion}
-use Rattle.std.proofs.lemmas.Grind.{flat_map-append}
 use Rattle.carrier_io.specs.Pieces.{joined}
 use Rattle.carrier_model.proofs.Messages.{taken_at}
 use Rattle.carrier_model.specs.FileTrees as trees
 use Rattle.carrier_model.specs.FileTrees.{FileTree, Named, files_listed}
-use Rattle.carrier_model.specs.KeyTexts.{hex_digits, lower}
 use Rattle.carrier_model.specs.Tree.{Message, message, Attachments, no_more, attached, Attached, attachments_from, Body, nothing, embedded, stored}
 use Rattle.carrier_model.specs.Trees.{KeyHasUnits, IsPropList, HasPropLists, HavePropLists, BodyHasPropLists}
 use Rattle.carrier_model.specs.Values.{Prop, IsProp}
 use Rattle.json_model.specs.ByteTrees.{AreBytes, PropHasBytes, PropsHaveBytes, FilesHaveBytes, HasBytes, HaveBytes, BodyHasBytes}
-use Rattle.json_model.specs.Digits.{hex}
 use Rattle.json_model.proofs.Meant.{turns_joined}
 use Rattle.msg_tree.specs.Keeping.{HasStores, HaveStores, BodyHasStores}
+use Rattle.tree_json.specs.Bodies.{MessageIsWhole, StoreIsWhole}
 use Rattle.tree_json.specs.Wholes.{IsWholeProp, IsWholeList, MemberHasBytes, IsWhole, AreWhole, BodyIsWhole, AttachedIsWhole}
+
+-- what holds where there is a value, whatever the answer is
+pub on_ok : {A E P : Type 0} (r : Result A E) → P → OnOk r P
+on_ok (Ok v) p = p
+on_ok (Err g) p = tt
 
 -- ---- lists
 
@@ -46,14 +49,9 @@ in_turn : {A : Type 0} (P Q : A → Type 0) → ((x : A) → P x → Q x) → (x
 in_turn P Q each [] h = tt
 in_turn P Q each (x ∷ xs) h = (each x h.0, in_turn P Q each xs h.1)
 
--- ---- digits
+-- ---- pieces
 
--- one piece more
-pub digits_more : (piece : ℕ → List ℕ) (k : ℕ) (text new p : List ℕ) → text ≡ hex (joined piece k) → p ≡ piece k → new ≡ text ++ hex p → new ≡ hex (joined piece (k + 1))
-digits_more piece k text new p h e n =
-    let s : k + 1 ≡ suc k = omega arith in
-    rw s (n ∙ ((λ i. h i ++ hex (e i)) ∙ sym (flat_map-append (hex_digits lower 2) (joined piece k) (piece k))))
-
+-- one more
 pub bytes_more : (piece : ℕ → List ℕ) (k : ℕ) (p : List ℕ) → AreBytes (joined piece k) → p ≡ piece k → AreBytes p → AreBytes (joined piece (k + 1))
 bytes_more piece k p h e b =
     let s : k + 1 ≡ suc k = omega arith in
@@ -67,6 +65,11 @@ members_have_bytes (trees.stream name x others) h = (h.0, members_have_bytes oth
 members_have_bytes (trees.storage name class inside others) h = (h.0.0, h.0.1, members_have_bytes others h.1)
 
 -- ---- messages
+
+pub body_whole : (b : Body) → MessageIsWhole b → StoreIsWhole b → BodyIsWhole b
+body_whole nothing m s = tt
+body_whole (embedded inner) m s = m
+body_whole (stored store) m s = s
 
 pub attachments_whole : (xs : List Attached) → AllByRecursion AttachedIsWhole xs → AreWhole (attachments_from xs)
 attachments_whole [] h = tt

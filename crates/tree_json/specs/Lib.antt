@@ -1,3 +1,5 @@
+pub mod Bodies
 pub mod Listing
+pub mod Lists
+pub mod Paths
 pub mod Wholes
-pub mod Tokens

@@ -1,100 +1,64 @@
-//! A JSON text that grows token by token.
-ghost use Rattle.std.specs.Prelude.{◌≡◌, [], ◌∷◌, ◌++◌, OnOk, string_bytes, decimal};
-ghost use Rattle.json.specs.Lex.{tokens};
-ghost use Rattle.json.specs.Print.{print};
-ghost use Rattle.json.specs.Token as token;
+//! The JSON text of a tree, and how long it is. [RFC 8259]
+ghost use Rattle.std.specs.Prelude.{◌≡◌, length, IfOk, OnOk, string_bytes};
+ghost use Rattle.carrier_io.specs.Known.{Writes};
+ghost use Rattle.json_model.specs.JsonMeanings.{TextMeansTree};
+ghost use Rattle.json_model.specs.MessageForms.{json_text};
+ghost use Rattle.msg_tree.specs.Whole.{plain_of};
 
-use carrier_io::NoMemory;
-use json::Writer;
+use crate::write_messages::write_message;
+use carrier_io::{Blob, Failed, MemorySink, NoMemory, Sink, SureSink, Writing};
+use msg_tree::Tree;
 use std::alloc::Global;
-use std::marker::Model;
 
-/// A text that grows token by token, without spaces. The nesting is left to the caller.
+/// How many bytes the JSON text of a tree has. NoMemory says that a u64 does not hold their number.
+pub fn json_length<B: Blob>(tree: &Tree<B>) -> Result<u64, NoMemory>
+    ensures length { IfOk result (λ n. n ≡ length (json_text (plain_of tree.now))) }
+    ensures means { OnOk result (TextMeansTree (json_text (plain_of tree.now)) (plain_of tree.now)) }
+{
+    let mut count = 0;
+    match write_message(&mut SureSink::new(), &mut count, tree.top()) {
+        Ok(()) if count < u64::MAX => Ok(count),
+        _ => Err(NoMemory),
+    }
+}
+
+/// Appends the JSON text of a tree, without spaces. Failed says that the sink failed; then a front of it may stand there.
+fn write_json<B: Blob, W: Sink>(tree: &Tree<B>, sink: &mut W) -> Result<(), Failed>
+    ensures { Writes (W.held sink.old) (W.held sink.new) (W.faults sink.old) (W.faults sink.new) result (json_text (plain_of tree.now)) }
+{
+    write_message(sink, &mut 0, tree.top())
+}
+
+/// The JSON text of a tree, without spaces, as it is appended. [RFC 8259]
 #[derive(Drop)]
-pub struct JsonText {
-    writer: Writer,
+pub struct JsonText<'t, B: Blob> {
+    /// The tree.
+    pub tree: &'t Tree<B>,
 }
 
-impl Model for JsonText {
-    ghost use Rattle.std.specs.Prelude.{◌≡◌, [], List};
-    ghost use Rattle.json.specs.Token.{Token, tokens_code};
+impl<'t, B: Blob> Writing for JsonText<'t, B> {
+    ghost use Rattle.json_model.specs.MessageForms.{json_text};
+    ghost use Rattle.msg_tree.specs.Whole.{plain_of};
 
-    ghost Value = { List Token };
+    ghost text = { λ s. json_text (plain_of s.tree.now) };
 
-    ghost coded = { tokens_code };
-
-    ghost view = { λ s. s.writer.tokens };
-
-    ghost invariant = { λ s. s.writer.before ≡ [] };
+    fn write_to<W: Sink>(&self, sink: &mut W) -> Result<(), Failed> {
+        write_json(self.tree, sink)
+    }
 }
 
-impl JsonText {
-    /// A text of nothing.
-    pub fn new(alloc: Global) -> JsonText
-        ensures { result ≡ [] }
-    {
-        JsonText {
-            writer: Writer::new(Vec::new(alloc)),
-        }
-    }
-
-    /// Opens an object.
-    pub fn begin_object(&mut self) -> Result<(), NoMemory>
-        ensures { OnOk result (self.new ≡ self.old ++ token.begin_object ∷ []) }
-    {
-        Ok(self.writer.begin_object()?)
-    }
-
-    /// Closes an object.
-    pub fn end_object(&mut self) -> Result<(), NoMemory>
-        ensures { OnOk result (self.new ≡ self.old ++ token.end_object ∷ []) }
-    {
-        Ok(self.writer.end_object()?)
-    }
-
-    /// Opens an array.
-    pub fn begin_array(&mut self) -> Result<(), NoMemory>
-        ensures { OnOk result (self.new ≡ self.old ++ token.begin_array ∷ []) }
-    {
-        Ok(self.writer.begin_array()?)
-    }
-
-    /// Closes an array.
-    pub fn end_array(&mut self) -> Result<(), NoMemory>
-        ensures { OnOk result (self.new ≡ self.old ++ token.end_array ∷ []) }
-    {
-        Ok(self.writer.end_array()?)
-    }
-
-    /// The key of a member, before its value.
-    pub fn key(&mut self, name: &str) -> Result<(), NoMemory>
-        ensures { OnOk result (self.new ≡ self.old ++ token.key name.now ∷ []) }
-    {
-        Ok(self.writer.key(name)?)
-    }
-
-    /// A string.
-    pub fn string(&mut self, text: &str) -> Result<(), NoMemory>
-        ensures { OnOk result (self.new ≡ self.old ++ token.string text.now ∷ []) }
-    {
-        Ok(self.writer.string(text)?)
-    }
-
-    /// A number.
-    pub fn number(&mut self, number: u64) -> Result<(), NoMemory>
-        ensures { OnOk result (self.new ≡ self.old ++ token.number (decimal number) ∷ []) }
-    {
-        Ok(self.writer.u64(number)?)
-    }
-
-    /// The text.
-    pub fn into_string(self) -> String
-        ensures text { string_bytes result ≡ print self }
-        ensures back { tokens (string_bytes result) ≡ self }
-    {
-        let Ok(text) = String::from_utf8(self.writer.into_inner()) else {
-            unreachable!();
-        };
-        text
-    }
+/// The JSON text of a tree, without spaces, in memory. NoMemory says that memory ran out. [RFC 8259]
+pub fn json_of<B: Blob>(alloc: Global, tree: &Tree<B>) -> Result<String, NoMemory>
+    ensures text { IfOk result (λ s. string_bytes s ≡ json_text (plain_of tree.now)) }
+    ensures means { IfOk result (λ s. TextMeansTree (string_bytes s) (plain_of tree.now)) }
+{
+    let len = json_length(tree)? as usize;
+    let mut sink = MemorySink::new(alloc, len, Vec::new(alloc))?;
+    let Ok(()) = write_json(tree, &mut sink) else {
+        return Err(NoMemory);
+    };
+    let Ok(text) = String::from_utf8(sink.into_bytes()) else {
+        unreachable!();
+    };
+    Ok(text)
 }

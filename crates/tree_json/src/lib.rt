@@ -2,10 +2,10 @@
 #![tactic(auto)]
 
 mod json_text;
-mod write_digits;
+mod paths;
 mod write_messages;
+mod write_parts;
 mod write_props;
 mod write_stores;
-mod write_texts;
 
-pub use write_messages::json_of;
+pub use json_text::{JsonText, json_length, json_of};

@@ -1,112 +1,127 @@
 //! Messages in messages.
-ghost use Rattle.std.specs.Prelude.{◌≡◌, ◌++◌, IfOk, OnOk, string_bytes, map};
+ghost use Rattle.std.specs.Prelude.{OnOk, map};
 ghost use Rattle.std.specs.List.{AllByRecursion};
-ghost use Rattle.carrier_model.specs.Tree as plain;
-ghost use Rattle.json_model.specs.JsonMeanings.{TextMeansTree};
-ghost use Rattle.json_model.specs.MessageForms.{json_of as plain_json, json_text, attachments_json, attachment_json};
+ghost use Rattle.json_model.specs.MessageForms.{json_of, attachment_json};
 ghost use Rattle.json_model.specs.Properties.{props_json, listed_json};
-ghost use Rattle.msg_tree.specs.Meaning.{tree_of, list_of, attached_of};
-ghost use Rattle.msg_tree.specs.Whole.{plain_of};
-ghost use Rattle.tree_json.specs.Tokens.{tokens_of};
+ghost use Rattle.json_writer.specs.Counted.{Counts};
+ghost use Rattle.msg_tree.specs.Meaning.{tree_of, list_of, attached_of, body_of};
+ghost use Rattle.serde_json.specs.Written.{compact_text};
+ghost use Rattle.tree_json.specs.Bodies.{before_properties, behind_properties, MessageIsWhole, StoreIsWhole};
 ghost use Rattle.tree_json.specs.Wholes.{IsWholeList, IsWhole, AttachedIsWhole};
 
-use crate::json_text::JsonText;
 use crate::write_props::write_props;
 use crate::write_stores::write_store;
-use carrier_io::{Blob, NoMemory};
-use msg_tree::{Attachment, Attachments, Body, Message, Recipients, Tree};
-use std::alloc::Global;
+use carrier_io::{Blob, Failed, Sink};
+use json_writer::{append, separator};
+use msg_tree::{Attachment, Attachments, Body, Message, Recipients};
 
-fn write_recipients<B: Blob>(
-    alloc: Global,
-    out: &mut JsonText,
+/// Appends the list of each recipient.
+fn write_recipients<B: Blob, W: Sink>(
+    sink: &mut W,
+    count: &mut u64,
     recipients: &Recipients<B>,
-) -> Result<(), NoMemory>
-    ensures json { OnOk result (out.new ≡ out.old ++ tokens_of (listed_json (map props_json recipients.now))) }
+) -> Result<(), Failed>
+    ensures json { Counts (W.held sink.old) (W.held sink.new) (W.faults sink.old) (W.faults sink.new) count.old count.new result (compact_text (listed_json (map props_json recipients.now))) }
     ensures whole { OnOk result (AllByRecursion IsWholeList recipients.now) }
 {
-    out.begin_array()?;
+    append(sink, count, b"[")?;
     for k in 0..recipients.len() {
-        write_props(alloc, out, recipients.get(k))?;
+        append(sink, count, separator(k))?;
+        write_props(sink, count, recipients.get(k))?;
     }
-    out.end_array()
+    append(sink, count, b"]")
 }
 
-/// A message with all that is in it.
+/// Appends a message with all that is in it.
 #[cycle(telling)]
-fn write_message<B: Blob>(
-    alloc: Global,
-    out: &mut JsonText,
+pub(crate) fn write_message<B: Blob, W: Sink>(
+    sink: &mut W,
+    count: &mut u64,
     message: &Message<B>,
-) -> Result<(), NoMemory>
-    ensures json { OnOk result (out.new ≡ out.old ++ tokens_of (plain_json (tree_of B.bytes message.now))) }
+) -> Result<(), Failed>
+    ensures json { Counts (W.held sink.old) (W.held sink.new) (W.faults sink.old) (W.faults sink.new) count.old count.new result (compact_text (json_of (tree_of B.bytes message.now))) }
     ensures whole { OnOk result (IsWhole (tree_of B.bytes message.now)) }
 {
-    out.begin_object()?;
-    out.key("attachments")?;
-    write_attachments(alloc, out, &message.attachments)?;
-    out.key("properties")?;
-    write_props(alloc, out, &message.props)?;
-    out.key("recipients")?;
-    write_recipients(alloc, out, &message.recipients)?;
-    out.end_object()
+    append(sink, count, b"{\"attachments\":")?;
+    write_attachments(sink, count, &message.attachments)?;
+    append(sink, count, b",\"properties\":")?;
+    write_props(sink, count, &message.props)?;
+    append(sink, count, b",\"recipients\":")?;
+    write_recipients(sink, count, &message.recipients)?;
+    append(sink, count, b"}")
 }
 
+/// Appends each attachment.
 #[cycle(telling)]
-fn write_attachments<B: Blob>(
-    alloc: Global,
-    out: &mut JsonText,
+fn write_attachments<B: Blob, W: Sink>(
+    sink: &mut W,
+    count: &mut u64,
     list: &Attachments<B>,
-) -> Result<(), NoMemory>
-    ensures json { OnOk result (out.new ≡ out.old ++ tokens_of (listed_json (map attachment_json (list_of B.bytes list.now)))) }
+) -> Result<(), Failed>
+    ensures json { Counts (W.held sink.old) (W.held sink.new) (W.faults sink.old) (W.faults sink.new) count.old count.new result (compact_text (listed_json (map attachment_json (list_of B.bytes list.now)))) }
     ensures whole { OnOk result (AllByRecursion AttachedIsWhole (list_of B.bytes list.now)) }
 {
-    out.begin_array()?;
+    append(sink, count, b"[")?;
     for k in 0..list.len() {
-        write_attachment(alloc, out, list.get(k))?;
+        append(sink, count, separator(k))?;
+        write_attachment(sink, count, list.get(k))?;
     }
-    out.end_array()
+    append(sink, count, b"]")
 }
 
+/// Appends an attachment; what is in it stands before or behind the properties, as their keys are in order.
 #[cycle(telling)]
-fn write_attachment<B: Blob>(
-    alloc: Global,
-    out: &mut JsonText,
+fn write_attachment<B: Blob, W: Sink>(
+    sink: &mut W,
+    count: &mut u64,
     attachment: &Attachment<B>,
-) -> Result<(), NoMemory>
-    ensures json { OnOk result (out.new ≡ out.old ++ tokens_of (attachment_json (attached_of B.bytes attachment.now))) }
+) -> Result<(), Failed>
+    ensures json { Counts (W.held sink.old) (W.held sink.new) (W.faults sink.old) (W.faults sink.new) count.old count.new result (compact_text (attachment_json (attached_of B.bytes attachment.now))) }
     ensures whole { OnOk result (AttachedIsWhole (attached_of B.bytes attachment.now)) }
 {
-    out.begin_object()?;
-    match &attachment.body {
-        Body::Plain => {
-            out.key("properties")?;
-            write_props(alloc, out, &attachment.props)?;
-            out.end_object()
-        }
+    append(sink, count, b"{")?;
+    write_embedded(sink, count, &attachment.body)?;
+    append(sink, count, b"\"properties\":")?;
+    write_props(sink, count, &attachment.props)?;
+    write_stored(sink, count, &attachment.body)?;
+    append(sink, count, b"}")
+}
+
+/// Appends a message that an attachment holds.
+#[cycle(telling)]
+fn write_embedded<B: Blob, W: Sink>(
+    sink: &mut W,
+    count: &mut u64,
+    body: &Body<B>,
+) -> Result<(), Failed>
+    ensures json { Counts (W.held sink.old) (W.held sink.new) (W.faults sink.old) (W.faults sink.new) count.old count.new result (before_properties (body_of B.bytes body.now)) }
+    ensures whole { OnOk result (MessageIsWhole (body_of B.bytes body.now)) }
+{
+    match body {
         Body::Message(inner) => {
-            out.key("message")?;
-            write_message(alloc, out, inner)?;
-            out.key("properties")?;
-            write_props(alloc, out, &attachment.props)?;
-            out.end_object()
+            append(sink, count, b"\"message\":")?;
+            write_message(sink, count, inner)?;
+            append(sink, count, b",")
         }
-        Body::Store(store) => {
-            out.key("properties")?;
-            write_props(alloc, out, &attachment.props)?;
-            out.key("store")?;
-            write_store(alloc, out, store)?;
-            out.end_object()
-        }
+        _ => append(sink, count, b""),
     }
 }
 
-/// The JSON text of a tree, without spaces. NoMemory says that memory ran out. [RFC 8259]
-pub fn json_of<B: Blob>(alloc: Global, tree: &Tree<B>) -> Result<String, NoMemory>
-    ensures text { IfOk result (λ s. string_bytes s ≡ json_text (plain_of tree.now)) }
-    ensures means { IfOk result (λ s. TextMeansTree (string_bytes s) (plain_of tree.now)) }
+/// Appends a store that an attachment holds.
+fn write_stored<B: Blob, W: Sink>(
+    sink: &mut W,
+    count: &mut u64,
+    body: &Body<B>,
+) -> Result<(), Failed>
+    ensures json { Counts (W.held sink.old) (W.held sink.new) (W.faults sink.old) (W.faults sink.new) count.old count.new result (behind_properties (body_of B.bytes body.now)) }
+    ensures whole { OnOk result (StoreIsWhole (body_of B.bytes body.now)) }
 {
-    let mut out = JsonText::new(alloc);
-    write_message(alloc, &mut out, tree.top())?;
-    Ok(out.into_string())
+    match body {
+        Body::Store(store) => {
+            append(sink, count, b",\"store\":")?;
+            write_store(sink, count, store)
+        }
+        Body::Plain => append(sink, count, b""),
+        Body::Message(_) => append(sink, count, b""),
+    }
 }

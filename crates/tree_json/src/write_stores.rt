@@ -1,141 +1,123 @@
 //! OLE stores: their storages and streams in order, a storage before what is in it. [MS-CFB 1.3]
-ghost use Rattle.std.specs.Prelude.{◌≡◌, ◌++◌, ◌∷◌, [], IfOk, OnOk, map};
-ghost use Rattle.carrier_model.specs.FileTrees as plain;
-ghost use Rattle.json_model.specs.StoreForms.{storage_entry, stream_entry, path_json, entry_json, entries_below, store_json};
+ghost use Rattle.std.specs.Prelude.{◌≡◌, ◌||◌, nat_lt, map, OnOk};
 ghost use Rattle.json_model.specs.ByteTrees.{AreBytes, FilesHaveBytes};
-ghost use Rattle.tree_json.specs.Listing.{member_entries};
-ghost use Rattle.tree_json.specs.Tokens.{tokens_of, tokens_of_all};
-ghost use Rattle.tree_json.specs.Wholes.{MemberHasBytes, StoreHasBytes};
+ghost use Rattle.json_model.specs.StoreForms.{storage_entry, stream_entry, entry_json, entries_below, store_json};
+ghost use Rattle.json_writer.specs.Counted.{Counts};
 ghost use Rattle.msg_tree.specs.StoreMeaning.{store_of, member_of};
+ghost use Rattle.serde_json.specs.Written.{compact_text, comma_if};
+ghost use Rattle.tree_json.specs.Listing.{member_entries};
+ghost use Rattle.tree_json.specs.Lists.{behind};
+ghost use Rattle.tree_json.specs.Paths.{names_in};
+ghost use Rattle.tree_json.specs.Wholes.{MemberHasBytes, StoreHasBytes};
 
-use crate::json_text::JsonText;
-use crate::write_digits::{write_digits, write_guid};
-use crate::write_texts::write_name;
-use carrier_io::{Blob, NoMemory, Units};
+use crate::paths::{Path, write_path};
+use crate::write_parts::{write_digits, write_guid};
+use carrier_io::{Blob, Failed, Sink};
+use json_writer::append;
 use msg_tree::{Member, Store};
 use prop_names::Guid;
-use std::alloc::Global;
 
-/// The names of a path, and one more.
-fn path_behind(alloc: Global, above: &[Units], name: &[u16]) -> Result<Vec<Units>, NoMemory>
-    ensures { IfOk result (λ v. v.items ≡ above.now ++ name.now ∷ []) }
-{
-    let mut path = Vec::with_capacity(alloc, above.len().saturating_add(1))?;
-    for one in above {
-        path.push(one.copy(alloc)?)?;
-    }
-    path.push(units_of(alloc, name)?)?;
-    Ok(path)
-}
-
-/// The same units in a list of their own.
-fn units_of(alloc: Global, name: &[u16]) -> Result<Units, NoMemory>
-    ensures { IfOk result (λ r. r ≡ name.now) }
-{
-    let mut units = Units::new(alloc);
-    for unit in name {
-        units.push(*unit)?;
-    }
-    Ok(units)
-}
-
-fn write_path(alloc: Global, out: &mut JsonText, path: &[Units]) -> Result<(), NoMemory>
-    ensures { OnOk result (out.new ≡ out.old ++ tokens_of (path_json path.now)) }
-{
-    out.begin_array()?;
-    for name in path {
-        write_name(alloc, out, name.as_slice())?;
-    }
-    out.end_array()
-}
-
-fn write_stream<B: Blob>(
-    alloc: Global,
-    out: &mut JsonText,
-    path: &[Units],
+/// Appends a stream with its path.
+fn write_stream<B: Blob, W: Sink>(
+    sink: &mut W,
+    count: &mut u64,
+    path: &Path,
     bytes: &B,
-) -> Result<(), NoMemory>
-    ensures json { OnOk result (out.new ≡ out.old ++ tokens_of (entry_json (stream_entry path.now (B.bytes bytes.now)))) }
+) -> Result<(), Failed>
+    ensures json { Counts (W.held sink.old) (W.held sink.new) (W.faults sink.old) (W.faults sink.new) count.old count.new result (compact_text (entry_json (stream_entry (names_in path.now) (B.bytes bytes.now)))) }
     ensures bytes { OnOk result (AreBytes (B.bytes bytes.now)) }
 {
-    out.begin_object()?;
-    out.key("data")?;
-    write_digits(alloc, out, bytes)?;
-    out.key("path")?;
-    write_path(alloc, out, path)?;
-    out.end_object()
+    append(sink, count, b"{\"data\":")?;
+    write_digits(sink, count, bytes)?;
+    append(sink, count, b",\"path\":")?;
+    write_path(sink, count, path)?;
+    append(sink, count, b"}")
 }
 
-fn write_storage(
-    alloc: Global,
-    out: &mut JsonText,
-    path: &[Units],
+/// Appends a storage with its path.
+fn write_storage<W: Sink>(
+    sink: &mut W,
+    count: &mut u64,
+    path: &Path,
     class: [u8; 16],
-) -> Result<(), NoMemory>
-    ensures json { OnOk result (out.new ≡ out.old ++ tokens_of (entry_json (storage_entry path.now class))) }
+) -> Result<(), Failed>
+    ensures json { Counts (W.held sink.old) (W.held sink.new) (W.faults sink.old) (W.faults sink.new) count.old count.new result (compact_text (entry_json (storage_entry (names_in path.now) class))) }
     ensures bytes { OnOk result (AreBytes class) }
 {
-    out.begin_object()?;
-    out.key("class")?;
-    write_guid(alloc, out, &Guid(class))?;
-    out.key("path")?;
-    write_path(alloc, out, path)?;
-    out.end_object()
+    append(sink, count, b"{\"class\":")?;
+    write_guid(sink, count, &Guid(class))?;
+    append(sink, count, b",\"path\":")?;
+    write_path(sink, count, path)?;
+    append(sink, count, b"}")
 }
 
-/// The members of a store, each before those in it.
+/// A comma, where something stands before.
+fn comma_behind(later: bool) -> &'static [u8]
+    ensures { result.now ≡ comma_if later }
+{
+    if later { b"," } else { b"" }
+}
+
+/// Whether something stands before the member at a place.
+fn is_later(later: bool, k: usize) -> bool
+    ensures { result ≡ later || nat_lt 0 k }
+{
+    later || k > 0
+}
+
+/// Appends the members of a storage, each before those in it, behind others where there are some.
 #[cycle(listing)]
-fn write_members<B: Blob>(
-    alloc: Global,
-    out: &mut JsonText,
-    above: &[Units],
-    store: &Store<B>,
-) -> Result<(), NoMemory>
-    ensures json { OnOk result (out.new ≡ out.old ++ tokens_of_all (map entry_json (entries_below above.now (store_of B.bytes store.now).members))) }
+fn write_members<'p, B: Blob, W: Sink>(
+    sink: &mut W,
+    count: &mut u64,
+    later: bool,
+    above: &'p Path<'p>,
+    store: &'p Store<B>,
+) -> Result<(), Failed>
+    ensures json { Counts (W.held sink.old) (W.held sink.new) (W.faults sink.old) (W.faults sink.new) count.old count.new result (behind later (map entry_json (entries_below (names_in above.now) (store_of B.bytes store.now).members))) }
     ensures bytes { OnOk result (FilesHaveBytes (store_of B.bytes store.now).members) }
 {
     for k in 0..store.len() {
-        let path = path_behind(alloc, above, store.name(k))?;
-        write_member(alloc, out, &path, store.member(k))?;
+        let path = Path::Under(above, store.name(k));
+        write_member(sink, count, is_later(later, k), &path, store.member(k))?;
     }
     Ok(())
 }
 
-/// The member of a path, and those in it.
+/// Appends the member of a path, and those in it.
 #[cycle(listing)]
-fn write_member<B: Blob>(
-    alloc: Global,
-    out: &mut JsonText,
-    path: &[Units],
-    member: &Member<B>,
-) -> Result<(), NoMemory>
-    ensures json { OnOk result (out.new ≡ out.old ++ tokens_of_all (map entry_json (member_entries path.now (member_of B.bytes member.now)))) }
+fn write_member<'p, B: Blob, W: Sink>(
+    sink: &mut W,
+    count: &mut u64,
+    later: bool,
+    path: &'p Path<'p>,
+    member: &'p Member<B>,
+) -> Result<(), Failed>
+    ensures json { Counts (W.held sink.old) (W.held sink.new) (W.faults sink.old) (W.faults sink.new) count.old count.new result (behind later (map entry_json (member_entries (names_in path.now) (member_of B.bytes member.now)))) }
     ensures bytes { OnOk result (MemberHasBytes (member_of B.bytes member.now)) }
 {
+    append(sink, count, comma_behind(later))?;
     match member {
-        Member::Stream(bytes) => write_stream(alloc, out, path, bytes),
+        Member::Stream(bytes) => write_stream(sink, count, path, bytes),
         Member::Storage(inner) => {
-            write_storage(alloc, out, path, inner.class())?;
-            write_members(alloc, out, path, inner)
+            write_storage(sink, count, path, inner.class())?;
+            write_members(sink, count, true, path, inner)
         }
     }
 }
 
-/// A store: its class, and its members.
-pub fn write_store<B: Blob>(
-    alloc: Global,
-    out: &mut JsonText,
+/// Appends a store: its class, and its members.
+pub fn write_store<B: Blob, W: Sink>(
+    sink: &mut W,
+    count: &mut u64,
     store: &Store<B>,
-) -> Result<(), NoMemory>
-    ensures json { OnOk result (out.new ≡ out.old ++ tokens_of (store_json (store_of B.bytes store.now))) }
+) -> Result<(), Failed>
+    ensures json { Counts (W.held sink.old) (W.held sink.new) (W.faults sink.old) (W.faults sink.new) count.old count.new result (compact_text (store_json (store_of B.bytes store.now))) }
     ensures bytes { OnOk result (StoreHasBytes (store_of B.bytes store.now)) }
 {
-    out.begin_object()?;
-    out.key("class")?;
-    write_guid(alloc, out, &Guid(store.class()))?;
-    out.key("members")?;
-    out.begin_array()?;
-    write_members(alloc, out, &[], store)?;
-    out.end_array()?;
-    out.end_object()
+    append(sink, count, b"{\"class\":")?;
+    write_guid(sink, count, &Guid(store.class()))?;
+    append(sink, count, b",\"members\":[")?;
+    write_members(sink, count, false, &Path::Top, store)?;
+    append(sink, count, b"]}")
 }

@@ -1,18 +1,30 @@
 use Rattle.std.proofs.Common.{arith}
-use Rattle.json_model.specs.ByteTrees.{AreBytes}
 use Rattle.json_model.specs.Properties.{hex_json}
-use Rattle.tree_json.proofs.Appended.{on_map, on_ok, listed_more, listed_all}
-use Rattle.tree_json.proofs.Wholes.{whole_more, whole_all}
+use Rattle.json_model.specs.ByteTrees.{AreBytes}
+use Rattle.tree_json.proofs.Lists.{listed_first, listed_init, listed_comma, listed_stops, listed_more, listed_ends}
+use Rattle.tree_json.proofs.Wholes.{on_ok, whole_more, whole_all}
 use Rattle.tree_json.proofs.write_props.write_guids.Goals as goal
 
+pub returns-in_err-append-clause-json : goal.returns-in_err-append-clause-json
+returns-in_err-append-clause-json g c = listed_first hex_json c.args.list.now c.from_residual.ensures.0 c.in_err-append.ensures
+
+pub returns-in_err-append-2-clause-json : goal.returns-in_err-append-2-clause-json
+returns-in_err-append-2-clause-json g c = listed_comma hex_json c.args.list.now c.loop-k.k (omega (arith, c.loop-k-test.true, c.len-k-end.ensures)) c.from_residual-in_err-append-2.ensures.0 c.loop-k.invariant.0 (rw c.separator.ensures at c.in_err-append-2.ensures)
+
+pub returns-in_err-write_guid-clause-json : goal.returns-in_err-write_guid-clause-json
+returns-in_err-write_guid-clause-json g c = listed_stops hex_json c.args.list.now c.loop-k.k _ c.get.ensures c.from_residual-in_err-write_guid.ensures.0 c.loop-k.invariant.0 (rw c.separator.ensures at c.in_ok-append-2.ensures) c.in_err-write_guid.ensures.json
+
+pub loop-k-init : goal.loop-k-init
+loop-k-init g c = (listed_init hex_json c.args.list.now c.in_ok-append.ensures, tt)
+
 pub loop-k-preserved : goal.loop-k-preserved
-loop-k-preserved c = (
-  listed_more hex_json _ _ _ _ _ _ c.loop-k.invariant.0 c.get.ensures c.in_ok-write_guid.ensures.json,
-  whole_more AreBytes _ _ _ c.loop-k.invariant.1 c.get.ensures c.in_ok-write_guid.ensures.bytes,
+loop-k-preserved g c = (
+  listed_more hex_json c.args.list.now c.loop-k.k _ c.get.ensures c.loop-k.invariant.0 (rw c.separator.ensures at c.in_ok-append-2.ensures) c.in_ok-write_guid.ensures.json,
+  whole_more AreBytes _ _ _ c.loop-k.invariant.1 c.get.ensures c.write_guid.ensures.bytes,
 )
 
 pub returns-clause-json : goal.returns-clause-json
-returns-clause-json c = on_map c.end_array.result (λ e. listed_all hex_json _ _ _ _ _ _ c.in_ok-begin_array.ensures c.loop-k.invariant.0 (omega (arith, c.loop-k-test.false, c.len-k-end.ensures)) e) c.end_array.ensures
+returns-clause-json g c = listed_ends hex_json c.args.list.now c.loop-k.k (omega (arith, c.loop-k-test.false, c.len-k-end.ensures)) c.loop-k.invariant.0 c.append-2.ensures
 
 pub returns-clause-bytes : goal.returns-clause-bytes
-returns-clause-bytes c = on_ok c.end_array.result (whole_all AreBytes _ _ c.loop-k.invariant.1 (omega (arith, c.loop-k-test.false, c.len-k-end.ensures)))
+returns-clause-bytes g c = on_ok c.append-2.result (whole_all AreBytes _ _ c.loop-k.invariant.1 (omega (arith, c.loop-k-test.false, c.len-k-end.ensures)))

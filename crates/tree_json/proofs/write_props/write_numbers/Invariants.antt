@@ -1,7 +1,8 @@
-use Rattle.std.proofs.Common.{◌≡◌, ◌++◌, map, take}
+use Rattle.std.proofs.Common.{◌∷◌, map, take, false}
 use Rattle.json_model.specs.Properties.{number_json}
-use Rattle.tree_json.specs.Tokens.{tokens_of_all}
+use Rattle.json_writer.proofs.Counted.{SoFar}
+use Rattle.tree_json.specs.Lists.{behind}
 use Rattle.tree_json.proofs.write_props.write_numbers.Given as goal
 
 abbrev pub invariant-loop-k : goal.invariant-loop-k
-invariant-loop-k l = l.out ≡ l.initial.out ++ tokens_of_all (map number_json (take l.k l.list))
+invariant-loop-k g l = SoFar (g.W.Sink.held l.fn.sink) (g.W.Sink.held l.sink) (g.W.Sink.faults l.fn.sink) (g.W.Sink.faults l.sink) l.fn.count l.count (91 ∷ behind false (map number_json (take l.k l.list)))

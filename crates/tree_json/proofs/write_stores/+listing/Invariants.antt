@@ -1,11 +1,11 @@
-use Rattle.std.proofs.Common.{◌≡◌, ◌+◌, ◌*◌, ◌++◌, map, take}
-use Rattle.std.specs.List.{flat_map, AllByRecursion}
+use Rattle.std.proofs.Common.{◌≡◌, ◌+◌, ◌*◌, take}
+use Rattle.std.specs.List.{AllByRecursion}
 use Rattle.carrier_model.specs.FileTrees.{files_listed, storage_depth, Named}
-use Rattle.json_model.specs.StoreForms.{entry_json}
+use Rattle.json_writer.proofs.Counted.{SoFar}
 use Rattle.msg_tree.specs.StoreMeaning.{store_of, member_of}
-use Rattle.tree_json.specs.Tokens.{tokens_of_all}
+use Rattle.tree_json.specs.Paths.{names_in}
 use Rattle.tree_json.specs.Wholes.{MemberHasBytes}
-use Rattle.tree_json.proofs.Walks.{entries_at, member_depth}
+use Rattle.tree_json.proofs.Walks.{texts_at, member_depth}
 use Rattle.tree_json.proofs.write_stores.+listing.Given as goal
 
 abbrev pub decreases-write_members : goal.decreases-write_members
@@ -16,5 +16,5 @@ decreases-write_member g l = 2 * member_depth (member_of g.B.Blob.bytes l.member
 
 abbrev pub invariant-write_members-loop-k : goal.invariant-write_members-loop-k
 invariant-write_members-loop-k g l =
-    (l.out ≡ l.initial.out ++ tokens_of_all (map entry_json (flat_map (entries_at l.above) (take l.k (files_listed (store_of g.B.Blob.bytes l.store).members)))))
+    SoFar (g.W.Sink.held l.fn.sink) (g.W.Sink.held l.sink) (g.W.Sink.faults l.fn.sink) (g.W.Sink.faults l.sink) l.fn.count l.count (texts_at l.later (names_in l.above) (take l.k (files_listed (store_of g.B.Blob.bytes l.store).members)))
     × AllByRecursion (λ (e : Named). MemberHasBytes e.1) (take l.k (files_listed (store_of g.B.Blob.bytes l.store).members))

@@ -1,0 +1,6 @@
+pub mod Counted
+pub mod Lists
+pub mod Escapes
+pub mod HexStrings
+pub mod Decoding
+pub mod WellFormed

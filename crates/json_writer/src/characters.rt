@@ -1,0 +1,101 @@
+//! Characters in JSON strings.
+ghost use Rattle.std.specs.Prelude.{◌≡◌, ◌<◌, IfSome, unwrap_or};
+ghost use Rattle.std.specs.Char.{digit_char, encode_utf8};
+ghost use Rattle.json.specs.Print.{escape_byte, escape_letter, escape, quoted};
+ghost use Rattle.json_writer.specs.Counted.{Counts};
+ghost use Rattle.json_writer.specs.Units.{character_text};
+
+use crate::appending::append;
+use carrier_io::{Failed, Sink};
+
+/// A digit.
+fn digit(n: u8) -> u8
+    requires { n < 16 }
+    ensures { result ≡ digit_char n }
+{
+    if n < 10 { b'0' + n } else { b'a' + (n - 10) }
+}
+
+/// The letter of a byte that has a short escape. [RFC 8259, section 7]
+fn short_escape(byte: u8) -> Option<u8>
+    ensures letter { unwrap_or result 0 ≡ escape_letter byte }
+    ensures some { IfSome result (λ letter. 0 < letter) }
+{
+    match byte {
+        b'"' => Some(b'"'),
+        b'\\' => Some(b'\\'),
+        0x08 => Some(b'b'),
+        0x09 => Some(b't'),
+        0x0a => Some(b'n'),
+        0x0c => Some(b'f'),
+        0x0d => Some(b'r'),
+        _ => None,
+    }
+}
+
+/// Appends what stands for a control character that has no short escape.
+fn append_control<W: Sink>(sink: &mut W, count: &mut u64, byte: u8) -> Result<(), Failed>
+    requires small { byte < 32 }
+    requires long { escape_letter byte ≡ 0 }
+    ensures { Counts (W.held sink.old) (W.held sink.new) (W.faults sink.old) (W.faults sink.new) count.old count.new result (escape_byte byte) }
+{
+    let escape = [b'\\', b'u', b'0', b'0', digit(byte / 16), digit(byte % 16)];
+    append(sink, count, &escape)
+}
+
+/// Appends what stands for a byte of a string.
+#[inline(always)]
+fn append_byte<W: Sink>(sink: &mut W, count: &mut u64, byte: u8) -> Result<(), Failed>
+    ensures { Counts (W.held sink.old) (W.held sink.new) (W.faults sink.old) (W.faults sink.new) count.old count.new result (escape_byte byte) }
+{
+    match short_escape(byte) {
+        Some(letter) => append(sink, count, &[b'\\', letter]),
+        None if byte < 0x20 => append_control(sink, count, byte),
+        None => append(sink, count, &[byte]),
+    }
+}
+
+/// Appends what stands for the bytes of a string.
+fn append_escaped<W: Sink>(sink: &mut W, count: &mut u64, bytes: &[u8]) -> Result<(), Failed>
+    ensures { Counts (W.held sink.old) (W.held sink.new) (W.faults sink.old) (W.faults sink.new) count.old count.new result (escape bytes.now) }
+{
+    for byte in bytes {
+        append_byte(sink, count, *byte)?;
+    }
+    Ok(())
+}
+
+/// Appends a character of a string, in UTF-8.
+pub(crate) fn append_character<W: Sink>(
+    sink: &mut W,
+    count: &mut u64,
+    character: char,
+) -> Result<(), Failed>
+    ensures { Counts (W.held sink.old) (W.held sink.new) (W.faults sink.old) (W.faults sink.new) count.old count.new result (escape (encode_utf8 character)) }
+{
+    let mut buffer = [0; 4];
+    append_escaped(sink, count, character.encode_utf8(&mut buffer).as_bytes())
+}
+
+/// Appends a character, where there is one.
+pub(crate) fn append_some<W: Sink>(
+    sink: &mut W,
+    count: &mut u64,
+    character: Option<char>,
+) -> Result<(), Failed>
+    ensures { Counts (W.held sink.old) (W.held sink.new) (W.faults sink.old) (W.faults sink.new) count.old count.new result (character_text character) }
+{
+    match character {
+        Some(character) => append_character(sink, count, character),
+        None => append(sink, count, b""),
+    }
+}
+
+/// Appends a string by its bytes in UTF-8. Failed says that the sink failed. [RFC 8259, section 7]
+pub fn append_string<W: Sink>(sink: &mut W, count: &mut u64, text: &[u8]) -> Result<(), Failed>
+    ensures { Counts (W.held sink.old) (W.held sink.new) (W.faults sink.old) (W.faults sink.new) count.old count.new result (quoted text.now) }
+{
+    append(sink, count, b"\"")?;
+    append_escaped(sink, count, text)?;
+    append(sink, count, b"\"")
+}

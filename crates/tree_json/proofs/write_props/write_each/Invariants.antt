@@ -1,0 +1,11 @@
+use Rattle.std.proofs.Common.{◌∷◌, map, take, false}
+use Rattle.std.specs.List.{AllByRecursion}
+use Rattle.json_model.specs.Properties.{bytes_json}
+use Rattle.json_model.specs.ByteTrees.{AreBytes}
+use Rattle.json_writer.proofs.Counted.{SoFar}
+use Rattle.tree_json.specs.Lists.{behind}
+use Rattle.tree_json.proofs.write_props.write_each.Given as goal
+
+abbrev pub invariant-loop-k : goal.invariant-loop-k
+invariant-loop-k g l = SoFar (g.W.Sink.held l.fn.sink) (g.W.Sink.held l.sink) (g.W.Sink.faults l.fn.sink) (g.W.Sink.faults l.sink) l.fn.count l.count (91 ∷ behind false (map (bytes_json l.kind) (take l.k l.list)))
+    × AllByRecursion AreBytes (take l.k l.list)

@@ -1,6 +1,0 @@
-use Rattle.std.proofs.Common.{◌≡◌, ◌*◌, take}
-use Rattle.carrier_model.specs.Bytes.{units_of}
-use Rattle.tree_json.proofs.write_texts.units_in.Given as goal
-
-abbrev pub invariant-loop-k : goal.invariant-loop-k
-invariant-loop-k l = l.units.items ≡ units_of (take (2 * l.k) l.bytes)
