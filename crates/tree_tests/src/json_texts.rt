@@ -1,10 +1,11 @@
-use carrier_io::Units;
+use carrier_io::{MemorySink, Units};
+use json_writer::{append_digits, append_name, append_number, append_string, append_text};
 use msg_tree::{Attachment, Attachments, Body, Member, Message, Recipients, Store, Tree};
 use prop_names::{Guid, Key, Name};
 use prop_values::{InsertEnd, Kind, Prop, Props, Value};
 use std::alloc::Global;
 use std::test::*;
-use tree_json::json_of;
+use tree_json::{json_length, json_of};
 
 const SET: Guid = Guid([0x62; 16]);
 
@@ -42,6 +43,36 @@ fn the_json_of_one_property(rt: HostRuntime) -> Result<(), Fail> {
         text.as_str(),
         "{\"attachments\":[],\"properties\":[{\"key\":\"0017\",\"kind\":\"Integer32\",\"value\":2}],\"recipients\":[]}"
     );
+    assert_eq!(rt; json_length(&tree).ok(), Some(93));
+    Ok(())
+}
+
+#[test]
+fn parts_of_json_texts(rt: HostRuntime) -> Result<(), Fail> {
+    let alloc = rt.alloc();
+    let mut sink = MemorySink::new(alloc, 100, Vec::new(alloc))
+        .ok()
+        .ok_or("memory")?;
+    let mut count = 0;
+    append_number(&mut sink, &mut count, 18_446_744_073_709_551_615)
+        .ok()
+        .ok_or("room")?;
+    append_digits(&mut sink, &mut count, &[0, 255].as_slice())
+        .ok()
+        .ok_or("room")?;
+    append_string(&mut sink, &mut count, b"\"\\/\n\x1f\x7f")
+        .ok()
+        .ok_or("room")?;
+    append_text(&mut sink, &mut count, &[0x22, 0, 0xac, 0x20].as_slice())
+        .ok()
+        .ok_or("room")?;
+    append_name(&mut sink, &mut count, &[0xdc00])
+        .ok()
+        .ok_or("room")?;
+    let wanted =
+        "18446744073709551615\"00ff\"\"\\\"\\\\/\\n\\u001f\x7f\"\"\\\"\u{20ac}\"{\"units\":\"00dc\"}";
+    assert_eq!(rt; sink.bytes(), wanted.as_bytes());
+    assert_eq!(rt; count, wanted.len() as u64);
     Ok(())
 }
 
