@@ -1,7 +1,9 @@
-//! Tests of mails, of trips through all forms and of the report: the crates that they are of are below, and have none of
+//! Tests of words, of mails, of trips through all forms and of the report: the crates that they are of are below, and have none of
 //! their own.
 #![tactic(auto)]
 
+#[cfg(test)]
+mod given_words;
 #[cfg(test)]
 mod mails;
 #[cfg(test)]

@@ -8,27 +8,20 @@ mod sampling;
 mod telling;
 mod words;
 
+use argument_words::{WordsEnd, words_given};
 use carrier_io::{StdSink, StdSource};
 use outlook_status::Status;
 use run::run;
 use std::process::ExitCode;
-use std::{env, io};
-use words::words_of;
 
 /// The exit code where a word is not UTF-8.
 const NOT_UTF8: u8 = 10;
 
 fn main(rt: HostRuntime) -> ExitCode {
-    let args = match env::args(&rt) {
-        Ok(args) => args,
-        Err(e) if e.kind() == io::ErrorKind::OutOfMemory => {
-            return ExitCode::from(Status::NoMemory.code());
-        }
-        Err(_) => return ExitCode::from(NOT_UTF8),
-    };
-    let words = match words_of(rt.alloc(), args) {
+    let words = match words_given(rt.alloc(), &rt) {
         Ok(words) => words,
-        Err(_) => return ExitCode::from(Status::NoMemory.code()),
+        Err(WordsEnd::NotUtf8) => return ExitCode::from(NOT_UTF8),
+        Err(WordsEnd::NoMemory) => return ExitCode::from(Status::NoMemory.code()),
     };
     let mut input = StdSource::new(rt.stdin());
     let mut output = StdSink::new(rt.stdout());

@@ -1,15 +1,13 @@
 //! The words of a command.
-ghost use Rattle.std.specs.Prelude.{◌≡◌, ◌≤◌, IfOk, IfSome, drop};
+ghost use Rattle.std.specs.Prelude.{◌≡◌, ◌≤◌, IfOk, IfSome};
 ghost use Rattle.std.specs.Option.{option_map};
-ghost use Rattle.std.specs.Vec.Iter.{into_iter_items};
 ghost use Rattle.job_model.specs.Commands as plain;
 ghost use Rattle.job_model.specs.Commands.{command_among, command_of, edit_of, other_of, sample_of, words_of_one};
 ghost use Rattle.outlook_cli.specs.Words.{command_seen, texts, IsSample};
 
 use carrier_io::NoMemory;
 use edit_words::{Edits, read_edits};
-use std::alloc::{AllocError, Global};
-use std::env;
+use std::alloc::Global;
 use translate_core::Job;
 
 /// The greatest number of a sample.
@@ -142,17 +140,4 @@ pub fn job_of(alloc: Global, words: &[String]) -> Result<Option<Command>, NoMemo
             }
         }
     }
-}
-
-/// The words behind the program's name, which is the first argument.
-pub fn words_of(alloc: Global, args: env::Args) -> Result<Vec<String>, AllocError>
-    ensures { IfOk result (λ words. words.items ≡ drop 1 (into_iter_items args)) }
-{
-    let mut words = Vec::new(alloc);
-    let mut rest = args;
-    let _name = rest.next();
-    for word in rest {
-        words.push(word)?;
-    }
-    Ok(words)
 }
