@@ -1,3 +1,5 @@
+ghost use Rattle.std.specs.Io.{WritesAtMost};
+
 use argument_words::{WordsEnd, words_given};
 use std::env::{Env, FillError};
 use std::test::*;
@@ -7,7 +9,9 @@ use std::test::*;
 struct Given<'w>(&'w [&'w [u8]]);
 
 /// Copies bytes to the front, where there is room.
-fn fill(bytes: &[u8], buf: &mut [u8]) -> Result<usize, FillError> {
+fn fill(bytes: &[u8], buf: &mut [u8]) -> Result<usize, FillError>
+    ensures { WritesAtMost result buf.new }
+{
     if bytes.len() > buf.len() {
         return Err(FillError::TooLong);
     }
