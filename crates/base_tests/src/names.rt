@@ -1,7 +1,8 @@
 use carrier_io::{MemorySink, Units};
+use cfb_names::sibling_order;
 use prop_names::{
-    Guid, Key, Name, NameSet, lower_digits2, print_key, set_label, upper_digits2, upper_digits16,
-    write_decimal,
+    Guid, Key, Name, NameSet, bytes_of_digits, guid_of_digits, lower_digits2, number_of_eight,
+    number_of_four, print_key, set_label, upper_digits2, upper_digits16, write_decimal,
 };
 use std::alloc::Global;
 use std::cmp::Ordering;
@@ -64,6 +65,33 @@ fn numbers_in_print(rt: HostRuntime) -> Result<(), Fail> {
     assert_eq!(rt; upper_digits16(0x0123_4567_89ab_cdef), *b"0123456789ABCDEF");
     assert_eq!(rt; upper_digits2(0xc5), *b"C5");
     assert_eq!(rt; lower_digits2(0xc5), *b"c5");
+    Ok(())
+}
+
+#[test]
+fn digits_are_read(rt: HostRuntime) -> Result<(), Fail> {
+    assert_eq!(rt; number_of_four(b"0E1D"), Some(0x0e1d));
+    assert_eq!(rt; number_of_eight(b"3701000D"), Some(0x3701_000d));
+    for wrong in [b"0e1d", b"0E1G", b"0E1/"] {
+        assert_eq!(rt; number_of_four(wrong), None);
+    }
+    let bytes = bytes_of_digits(rt.alloc(), b"00c5ff").ok().ok_or("no memory")?;
+    assert!(rt; bytes.ok_or("no digits")?.as_slice() == [0, 0xc5, 0xff].as_slice());
+    for wrong in [b"00C5", b"00cg", b"00c:"] {
+        let bytes = bytes_of_digits(rt.alloc(), wrong).ok().ok_or("no memory")?;
+        assert!(rt; bytes.is_none());
+    }
+    let set = guid_of_digits(b"0220060000000000c000000000000046");
+    assert_eq!(rt; set, Some(APPOINTMENT));
+    Ok(())
+}
+
+#[test]
+fn siblings_in_order(rt: HostRuntime) -> Result<(), Fail> {
+    assert_eq!(rt; sibling_order(&[0x62], &[0x61, 0x61]), Ordering::Less);
+    assert_eq!(rt; sibling_order(&[0x61, 0x5a], &[0x41, 0x7a]), Ordering::Equal);
+    assert_eq!(rt; sibling_order(&[0x61], &[0x5f]), Ordering::Less);
+    assert_eq!(rt; sibling_order(&[0xe4], &[0xc4]), Ordering::Greater);
     Ok(())
 }
 

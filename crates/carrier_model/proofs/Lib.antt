@@ -8,6 +8,7 @@ pub mod EntryLaws
 pub mod FaultPlaces
 pub mod FoundChildren
 pub mod Grammar
+pub mod HexDigits
 pub mod HoldsLaws
 pub mod Ids
 pub mod Items

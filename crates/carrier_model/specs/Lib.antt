@@ -4,6 +4,7 @@ pub mod Entries
 pub mod FileTrees
 pub mod Files
 pub mod Grammar
+pub mod HexDigits
 pub mod Holds
 pub mod Items
 pub mod KeyTexts

@@ -3,10 +3,8 @@ use Rattle.std.proofs.Common.{◌≡◌, ℕ, zero, suc, ◌+◌, ◌<◌, Bool,
 use Rattle.std.specs.Prelude.{slice_set}
 use Rattle.std.specs.Char.{to_ascii_uppercase}
 use Rattle.std.specs.Cmp.{IsTotalOrder, IsStrictWeakOrder}
-use Rattle.std.specs.Cmp.Lexicographic.{slice_cmp}
 use Rattle.std.specs.List.Sorted.{IsSortedBy, IsStableBy}
-use Rattle.std.specs.Ordering.{is_lt, nat_cmp}
-use Rattle.std.specs.declared.cmp.Ordering.{Ordering}
+use Rattle.std.specs.Ordering.{is_lt}
 use Rattle.std.proofs.lemmas.Cmp.{nat_cmp_total, nat_list_cmp_total, on_total, then_total}
 use Rattle.std.proofs.lemmas.List.Sorted.{ranks_by}
 use Rattle.carrier_model.specs.FileTrees.{sibling_cmp}
@@ -43,9 +41,3 @@ module _ {X : Type 0} (f : X → X) where
   next_done [] k x d lt e = absurd (omega (arith, lt))
   next_done (y ∷ ys) zero x d lt e = ap (λ (z : X). z ∷ ys) e
   next_done (y ∷ ys) (suc k) x d lt e = rw (add-one (suc k)) (ap (λ (zs : List X). f y ∷ zs) (next_done ys k x d (omega (arith, lt)) e ∙ ap (λ (n : ℕ). map f (take n ys) ++ drop n ys) (add-one k)))
-
--- ---- the order of two names
-
--- what is left to compare from a place on
-abbrev pub order_from : List ℕ → List ℕ → ℕ → Ordering
-order_from one other k = slice_cmp nat_cmp (map to_ascii_uppercase (drop k one)) (map to_ascii_uppercase (drop k other))

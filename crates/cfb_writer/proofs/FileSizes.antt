@@ -1,5 +1,5 @@
 -- How many bytes the file of a tree has.
-use Rattle.std.proofs.Common.{◌≡◌, ℕ, zero, suc, ◌+◌, ◌-◌, ◌*◌, ◌<◌, ◌≤◌, List, [], ◌∷◌, ◌++◌, length, map, drop, refl, sym, ap, subst, ◌∙◌, arith}
+use Rattle.std.proofs.Common.{◌≡◌, ℕ, zero, suc, ◌+◌, ◌-◌, ◌*◌, ◌<◌, ◌≤◌, List, [], ◌∷◌, ◌++◌, length, drop, refl, sym, ap, subst, ◌∙◌, arith}
 use Rattle.std.specs.Prelude.{Err, Ok}
 use Rattle.std.specs.List.{AllByRecursion}
 use Rattle.carrier_model.specs.Bytes.{MOST_BYTES}

@@ -1,7 +1,7 @@
 //! The directory.
-ghost use Rattle.std.specs.Prelude.{◌≡◌, ◌≤◌, ◌<◌, ◌+◌, ◌-◌, ◌*◌, ◌^◌, ◌++◌, length, replicate};
+ghost use Rattle.std.specs.Prelude.{◌≡◌, ◌≤◌, ◌<◌, ◌+◌, ◌-◌, ◌*◌, ◌^◌, ◌++◌, ◌∷◌, length, replicate};
 ghost use Rattle.std.specs.List.{flat_map, range_with_len, AllByRecursion};
-ghost use Rattle.carrier_model.specs.Bytes.{le16};
+ghost use Rattle.carrier_model.specs.Bytes.{le16, le32};
 ghost use Rattle.carrier_model.specs.Layout as layout;
 ghost use Rattle.cfb_list.specs.Contents.{content_bytes};
 ghost use Rattle.cfb_writer.specs.Entered.{slot_seen, record_bytes, stream_start};
@@ -21,6 +21,18 @@ use crate::streams::{Share, pieces_of};
 use crate::version::Version;
 use carrier_io::{Blob, Failed, Sink, le16, le32};
 use cfb_list::{Content, Kind};
+
+/// The object type of a storage. [MS-CFB 2.6.1]
+const STORAGE: u8 = 1;
+
+/// The object type of a stream.
+const STREAM: u8 = 2;
+
+/// The object type of the root.
+const ROOT: u8 = 5;
+
+/// The color of an entry. [MS-CFB 2.6.1]
+const BLACK: u8 = 1;
 
 /// Root Entry.
 const ROOT_NAME: [u16; 10] = [82, 111, 111, 116, 32, 69, 110, 116, 114, 121];
@@ -51,8 +63,48 @@ fn name_bytes(name: &[u16]) -> [u8; 64]
     bytes
 }
 
-/// Appends an entry: its name with its length in bytes and its null, and its fields. All entries are black.
-/// [MS-CFB 2.6.1]
+/// What stands between an entry's name and its class: the name's length in bytes, with its null, the type, the color, and
+/// the links. All entries are black.
+fn front_bytes(name: &[u16], fields: &Fields) -> [u8; 16]
+    requires { length name.now ≤ 31 }
+    ensures { result ≡ le16 (2 * (length name.now + 1)) ++ fields.now.kind ∷ layout.BLACK ∷ (le32 fields.now.left ++ (le32 fields.now.right ++ le32 fields.now.child)) }
+{
+    let len = le16(2 * (name.len() as u16 + 1));
+    let left = le32(fields.left);
+    let right = le32(fields.right);
+    let child = le32(fields.child);
+    [
+        len[0],
+        len[1],
+        fields.kind,
+        BLACK,
+        left[0],
+        left[1],
+        left[2],
+        left[3],
+        right[0],
+        right[1],
+        right[2],
+        right[3],
+        child[0],
+        child[1],
+        child[2],
+        child[3],
+    ]
+}
+
+/// What stands at an entry's end: where its stream begins, and how many bytes it has.
+fn back_bytes(fields: &Fields) -> [u8; 12]
+    ensures { result ≡ le32 fields.now.start ++ (le32 fields.now.size ++ le32 0) }
+{
+    let start = le32(fields.start);
+    let size = le32(fields.size);
+    [
+        start[0], start[1], start[2], start[3], size[0], size[1], size[2], size[3], 0, 0, 0, 0,
+    ]
+}
+
+/// Appends an entry: its name and its fields, without state bits and times. [MS-CFB 2.6.1]
 fn append_fields<W: Sink>(sink: &mut W, name: &[u16], fields: &Fields) -> Result<u16, Failed>
     requires { length name.now ≤ 31 }
     ensures { Sums (W.held sink.old) (W.held sink.new) (W.faults sink.old) (W.faults sink.new) result (record_bytes name.now fields.now) }
@@ -61,16 +113,10 @@ fn append_fields<W: Sink>(sink: &mut W, name: &[u16], fields: &Fields) -> Result
         sink,
         &[
             &name_bytes(name),
-            &le16(2 * (name.len() as u16 + 1)),
-            &[fields.kind, 1],
-            &le32(fields.left),
-            &le32(fields.right),
-            &le32(fields.child),
+            &front_bytes(name, fields),
             &fields.class,
             &[0; 20],
-            &le32(fields.start),
-            &le32(fields.size),
-            &[0; 4],
+            &back_bytes(fields),
         ],
     )
 }
@@ -105,7 +151,7 @@ fn append_entry<B: Blob, W: Sink>(
     ensures { Sums (W.held sink.old) (W.held sink.new) (W.faults sink.old) (W.faults sink.new) result (layout.slot_bytes (slot_seen B.bytes entry.now) (layout.start_of_slot next.mini next.long (slot_seen B.bytes entry.now)) (length (bytes_of (slot_seen B.bytes entry.now)))) }
 {
     let mut fields = Fields {
-        kind: 1,
+        kind: STORAGE,
         left: entry.left,
         right: entry.right,
         child: entry.child,
@@ -115,7 +161,7 @@ fn append_entry<B: Blob, W: Sink>(
     };
     match &entry.file.kind {
         Kind::Stream(content) => {
-            fields.kind = 2;
+            fields.kind = STREAM;
             fields.start = start_of(content, next);
             fields.size = content.size() as u32;
         }
@@ -157,7 +203,7 @@ fn append_root<B: Blob, W: Sink>(
     ensures { Sums (W.held sink.old) (W.held sink.new) (W.faults sink.old) (W.faults sink.new) result (layout.root_bytes (plan_seen numbers.now) (root_slot entries.now.root_class entries.now.top)) }
 {
     let fields = Fields {
-        kind: 5,
+        kind: ROOT,
         left: NO_LINK,
         right: NO_LINK,
         child: entries.top(),

@@ -1,20 +1,22 @@
 -- Edits that words are keep to the form and the range of their kinds.
 use Rattle.std.proofs.Common.{◌≡◌, ℕ, zero, suc, ◌+◌, ◌-◌, ◌*◌, ◌^◌, ◌/◌, ◌≤◌, ◌<◌, ◌%◌, length, List, [], ◌∷◌, ◌++◌, take, drop, refl, ap, subst, arith}
-use Rattle.std.specs.Prelude.{Bool, true, false, not, cond, ◌&&◌, ◌||◌, nat_le, nat_lt, ◌==◌, bytes_eq, slice_index, Option, Some, None, All, codes}
+use Rattle.std.specs.Prelude.{Bool, true, false, not, cond, ◌&&◌, nat_le, nat_lt, ◌==◌, bytes_eq, slice_index, Option, Some, None, All, codes}
 use Rattle.std.specs.List.{AllByRecursion, flat_map, list_all}
 use Rattle.std.specs.Option.{option_map}
 use Rattle.std.specs.Str.{chars, chars_after, continuation_len, lead_bits}
 use Rattle.std.specs.Char.Escape.{encode_utf16}
 use Rattle.std.proofs.lemmas.Bool.Decides.{nat_tests}
 use Rattle.std.proofs.lemmas.List.{length-append, length-drop}
+use Rattle.carrier_model.specs.HexDigits.{is_digit, digit_of, hex_behind, number_in, are_digits, number_of, is_hex, bytes_in, bytes_of, guid_of}
 use Rattle.carrier_model.specs.KeyTexts.{lower, upper}
 use Rattle.carrier_model.specs.Keys.{Key, id, named, numbered, IsKey}
 use Rattle.carrier_model.specs.Trees.{KeyHasUnits}
 use Rattle.carrier_model.specs.Values.{Value, number, guid, bytes, IsValue, number_widths, width_in}
 use Rattle.carrier_model.proofs.Elements.{all_of}
+use Rattle.carrier_model.proofs.HexDigits.{prints_digit}
 use Rattle.carrier_model.proofs.Units.{length-units}
 use Rattle.edit_model.specs.Edits.{Edit, set_prop, remove_prop, add_recipient, drop_recipient, drop_attachment, IsEdit}
-use Rattle.edit_model.specs.EditWords.{◌>>=◌, where_true, is_digit, is_hex, hex_value, hex_behind, hex_number, bytes_behind, bytes_of, guid_of, id_of, name_of, key_of, edit_kinds, kind_among, kind_of_word, wide_text, numbers_below, number_value, decimal_of, value_of, place_of, message_of, place_number, set_of, remove_of, drop_of, edit_of, words_behind, edits_behind, MOST_WORD_BYTES, are_short, edits_of}
+use Rattle.edit_model.specs.EditWords.{◌>>=◌, where_true, id_of, name_of, key_of, edit_kinds, kind_among, kind_of_word, wide_text, numbers_below, number_value, decimal_of, value_of, place_of, message_of, place_number, set_of, remove_of, drop_of, edit_of, words_behind, edits_behind, MOST_WORD_BYTES, are_short, edits_of}
 
 -- ---- steps
 
@@ -40,56 +42,53 @@ both false b h = absurd cc
 
 -- ---- hexadecimal digits
 
-value_below : (letter c : ℕ) → is_hex letter c ≡ true → hex_value letter c < 16
-value_below letter c h = by (is_digit c) refl h
-  where
-    by : (b : Bool) → is_digit c ≡ b → (b || (nat_le letter c && nat_le c (letter + 5))) ≡ true → cond b (c - 0x30) (10 + (c - letter)) < 16
-    by true is k = let two = both (nat_le 0x30 c) (nat_le c 0x39) is in grind (arith, nat_tests)
-    by false is k = let two = both (nat_le letter c) (nat_le c (letter + 5)) k in grind (arith, nat_tests)
+digit_below : (c : ℕ) → is_digit upper c ≡ true → digit_of upper c < 16
+digit_below c h = (prints_digit upper c (omega arith) h).small
 
-four_below : (w : List ℕ) (n : ℕ) → length w ≡ 4 → list_all (is_hex upper) w ≡ true → hex_behind upper n w < 65536 * n + 65536
+four_below : (w : List ℕ) (n : ℕ) → length w ≡ 4 → list_all (is_digit upper) w ≡ true → hex_behind n w < 65536 * n + 65536
 four_below (a ∷ b ∷ c ∷ d ∷ []) n is h =
-    let h1 = both (is_hex upper a) _ h in
-    let h2 = both (is_hex upper b) _ h1.1 in
-    let h3 = both (is_hex upper c) _ h2.1 in
-    let h4 = both (is_hex upper d) _ h3.1 in
-    omega (arith, value_below upper a h1.0, value_below upper b h2.0, value_below upper c h3.0, value_below upper d h4.0)
+    let h1 = both (is_digit upper a) _ h in
+    let h2 = both (is_digit upper b) _ h1.1 in
+    let h3 = both (is_digit upper c) _ h2.1 in
+    let h4 = both (is_digit upper d) _ h3.1 in
+    omega (arith, digit_below a h1.0, digit_below b h2.0, digit_below c h3.0, digit_below d h4.0)
 four_below _ n is h = absurd (omega (arith, is))
 
-behind_append : (letter n : ℕ) (v w : List ℕ) → hex_behind letter n (v ++ w) ≡ hex_behind letter (hex_behind letter n v) w
-behind_append letter n [] w = refl
-behind_append letter n (c ∷ v) w = behind_append letter (16 * n + hex_value letter c) v w
-
-eight_below : (w : List ℕ) → length w ≡ 8 → list_all (is_hex upper) w ≡ true → hex_behind upper 0 w < 2 ^ 32
+eight_below : (w : List ℕ) → length w ≡ 8 → list_all (is_digit upper) w ≡ true → number_in w < 2 ^ 32
 eight_below (a ∷ b ∷ c ∷ d ∷ rest) is h =
-    let h1 = both (is_hex upper a) _ h in
-    let h2 = both (is_hex upper b) _ h1.1 in
-    let h3 = both (is_hex upper c) _ h2.1 in
-    let h4 = both (is_hex upper d) _ h3.1 in
-    let first : hex_behind upper 0 (a ∷ b ∷ c ∷ d ∷ []) < 65536 = four_below (a ∷ b ∷ c ∷ d ∷ []) 0 refl (rw (h1.0, h2.0, h3.0, h4.0) refl) in
-    let second = four_below rest (hex_behind upper 0 (a ∷ b ∷ c ∷ d ∷ [])) (omega (arith, is)) h4.1 in
+    let h1 = both (is_digit upper a) _ h in
+    let h2 = both (is_digit upper b) _ h1.1 in
+    let h3 = both (is_digit upper c) _ h2.1 in
+    let h4 = both (is_digit upper d) _ h3.1 in
+    let first : number_in (a ∷ b ∷ c ∷ d ∷ []) < 65536 = four_below (a ∷ b ∷ c ∷ d ∷ []) 0 refl (rw (h1.0, h2.0, h3.0, h4.0) refl) in
+    let second = four_below rest (number_in (a ∷ b ∷ c ∷ d ∷ [])) (omega (arith, is)) h4.1 in
     omega (arith, first, second)
 eight_below _ is h = absurd (omega (arith, is))
 
-bytes_length : (word text out : List ℕ) → bytes_behind text word ≡ Some out → 2 * length out ≡ 2 * length text + length word
-bytes_length [] text out h = let same : text ≡ out = cc in omega (arith, ap length same)
-bytes_length (high ∷ []) text out h = absurd cc
-bytes_length (high ∷ low ∷ more) text out h =
-    let (good, rest) = when (is_hex lower high && is_hex lower low) _ out h in
-    let long = bytes_length more (text ++ (16 * hex_value lower high + hex_value lower low) ∷ []) out rest in
-    omega (arith, long, length-append text ((16 * hex_value lower high + hex_value lower low) ∷ []))
+halved : (word : List ℕ) → length word % 2 ≡ 0 → 2 * length (bytes_in word) ≡ length word
+halved [] even = refl
+halved (high ∷ []) even = absurd (omega (arith, even))
+halved (high ∷ low ∷ more) even = omega (arith, halved more (omega (arith, even)))
+
+bytes_length : (word out : List ℕ) → bytes_of word ≡ Some out → 2 * length out ≡ length word
+bytes_length word out h =
+    let (good, same) = where_is (is_hex word) (bytes_in word) out h in
+    let two = both (list_all (is_digit lower) word) (length word % 2 == 0) good in
+    let even : length word % 2 ≡ 0 = let e = two.1 in grind (arith, nat_tests) in
+    omega (arith, halved word even, ap length same)
 
 guid_length : (word out : List ℕ) → guid_of word ≡ Some out → length out ≡ 16
 guid_length word out h =
-    let (long, is) = when (length word == 32) _ out h in
-    let size : length word ≡ 32 = grind (arith, nat_tests) in
-    omega (arith, size, bytes_length word [] out is)
+    let (good, same) = where_is (is_hex word && (length word == 32)) (bytes_in word) out h in
+    let two = both (is_hex word) (length word == 32) good in
+    let long : length word ≡ 32 = let e = two.1 in grind (arith, nat_tests) in
+    omega (arith, long, halved word (omega (arith, long)), ap length same)
 
 -- ---- keys
 
 id_is : (word : List ℕ) (k : Key) → id_of word ≡ Some k → IsKey k × KeyHasUnits k
 id_is word k h =
-    let (n, read, more) = step_of (hex_number upper word) _ k h in
+    let (n, read, more) = step_of (number_of 4 word) _ k h in
     let (small, same) = where_is (nat_lt n 0x8000) (id n) k more in
     let below : n < 0x8000 = grind (arith, nat_tests) in
     subst (λ x. IsKey x × KeyHasUnits x) same (below, tt)
@@ -97,10 +96,10 @@ id_is word k h =
 name_is : (word : List ℕ) (k : Key) → length word ≡ 41 → name_of word ≡ Some k → IsKey k × KeyHasUnits k
 name_is word k long h =
     let (set, read, more) = step_of (guid_of (take 32 word)) _ k h in
-    let (n, told, last) = step_of (hex_number upper (drop 33 word)) _ k more in
+    let (n, told, last) = step_of (number_of 8 (drop 33 word)) _ k more in
     let (slash, same) = where_is (slice_index word 32 == 0x2F) (named (numbered set n)) k last in
-    let (digits, said) = where_is (list_all (is_hex upper) (drop 33 word)) (hex_behind upper 0 (drop 33 word)) n told in
-    let below = eight_below (drop 33 word) (omega (arith, long, length-drop 33 word)) digits in
+    let (digits, said) = where_is (are_digits 8 (drop 33 word)) (number_in (drop 33 word)) n told in
+    let below = eight_below (drop 33 word) (omega (arith, long, length-drop 33 word)) (both (list_all (is_digit upper) (drop 33 word)) _ digits).0 in
     subst (λ x. IsKey x × KeyHasUnits x) same ((guid_length (take 32 word) set read, omega (arith, below, said)), tt)
 
 pub key_is : (word : List ℕ) (k : Key) → key_of word ≡ Some k → IsKey k × KeyHasUnits k
@@ -142,7 +141,7 @@ string_is word short =
 
 binary_is : (word text : List ℕ) → length word ≤ MOST_WORD_BYTES → bytes_of word ≡ Some text → IsValue (bytes 0x0102 text)
 binary_is word text short is =
-    let long = bytes_length word [] text is in
+    let long = bytes_length word text is in
     record { kind_is = refl; short = omega (arith, short, long); even = λ e. absurd (omega (arith, e)) }
 
 -- what is read of a kind keeps to it

@@ -5,7 +5,7 @@ use Rattle.std.specs.Option.{option_map, option_and_then}
 use Rattle.std.specs.Str.{chars}
 use Rattle.std.specs.Char.Escape.{encode_utf16}
 use Rattle.carrier_model.specs.Bytes.{unit_bytes}
-use Rattle.carrier_model.specs.KeyTexts.{lower, upper}
+use Rattle.carrier_model.specs.HexDigits.{number_of, bytes_of, guid_of}
 use Rattle.carrier_model.specs.Keys.{Key, id, named, numbered}
 use Rattle.carrier_model.specs.Values.{Value, number, guid, bytes, number_widths, width_in}
 use Rattle.edit_model.specs.Edits.{Spot, itself, recipient, attachment, Place, Edit, set_prop, remove_prop, add_recipient, drop_recipient, drop_attachment}
@@ -42,48 +42,19 @@ decimal_of word = where_true (is_decimal word) (number_behind 0 word)
 abbrev pub place_number : List ℕ → Option ℕ
 place_number word = if nat_le (length word) 9 then decimal_of word else None
 
--- ---- hexadecimal digits, whose letters are lower-case or upper-case ones
-
-abbrev pub is_hex : ℕ → ℕ → Bool
-is_hex letter c = is_digit c || (nat_le letter c && nat_le c (letter + 5))
-
-abbrev pub hex_value : ℕ → ℕ → ℕ
-hex_value letter c = if is_digit c then c - 0x30 else 10 + (c - letter)
-
-abbrev pub hex_behind : ℕ → ℕ → List ℕ → ℕ
-hex_behind letter n [] = n
-hex_behind letter n (c ∷ more) = hex_behind letter (16 * n + hex_value letter c) more
-
-abbrev pub hex_number : ℕ → List ℕ → Option ℕ
-hex_number letter word = where_true (list_all (is_hex letter) word) (hex_behind letter 0 word)
-
--- bytes, each of two lower-case digits, behind others
-abbrev pub bytes_behind : List ℕ → List ℕ → Option (List ℕ)
-bytes_behind text [] = Some text
-bytes_behind text (high ∷ []) = None
-bytes_behind text (high ∷ low ∷ more) =
-    if is_hex lower high && is_hex lower low then bytes_behind (text ++ (16 * hex_value lower high + hex_value lower low) ∷ []) more else None
-
-abbrev pub bytes_of : List ℕ → Option (List ℕ)
-bytes_of word = bytes_behind [] word
-
--- the sixteen bytes of 32 digits
-abbrev pub guid_of : List ℕ → Option (List ℕ)
-guid_of word = if length word == 32 then bytes_of word else None
-
 -- ---- keys
 
 -- four upper-case digits of a number below 8000
 abbrev pub id_of : List ℕ → Option Key
 id_of word = do
-  n ← hex_number upper word
+  n ← number_of 4 word
   where_true (nat_lt n 0x8000) (id n)
 
 -- the set's bytes, a slash, and eight upper-case digits of the number
 abbrev pub name_of : List ℕ → Option Key
 name_of word = do
   set ← guid_of (take 32 word)
-  n ← hex_number upper (drop 33 word)
+  n ← number_of 8 (drop 33 word)
   where_true (slice_index word 32 == 0x2F) (named (numbered set n))
 
 abbrev pub key_of : List ℕ → Option Key

@@ -1,5 +1,5 @@
 mod Cuts
-mod Digits
+mod KeyWords
 mod EditSteps
 mod Numerals
 mod StepWords

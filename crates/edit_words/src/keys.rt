@@ -6,16 +6,14 @@ ghost use Rattle.prop_names.specs.Meaning.{key_of as key_meant};
 ghost use Rattle.prop_values.specs.Kinds.{kind_number};
 ghost use Rattle.edit_words.specs.Reading.{IsEditKind};
 
-use crate::hex_words::{read_eight, read_four, read_guid};
-use prop_names::{Key, Name};
+use prop_names::{Key, Name, guid_of_digits, number_of_eight, number_of_four};
 use prop_values::Kind;
 
 /// Four upper-case digits of a number below 8000.
 fn read_id(word: &[u8]) -> Option<Key>
-    requires { length word.now ≡ 4 }
     ensures { option_map key_meant result ≡ id_of word.now }
 {
-    match read_four(word) {
+    match number_of_four(word) {
         Some(number) => {
             if number < 0x8000 {
                 Some(Key::Id(number as u16))
@@ -32,10 +30,10 @@ fn read_name(word: &[u8]) -> Option<Key>
     requires { length word.now ≡ 41 }
     ensures { option_map key_meant result ≡ name_of word.now }
 {
-    let Some(set) = read_guid(&word[..32]) else {
+    let Some(set) = guid_of_digits(&word[..32]) else {
         return None;
     };
-    let Some(number) = read_eight(&word[33..]) else {
+    let Some(number) = number_of_eight(&word[33..]) else {
         return None;
     };
     if word[32] == b'/' {

@@ -4,7 +4,6 @@
 mod decimals;
 mod edit_list;
 mod edits;
-mod hex_words;
 mod keys;
 mod places;
 mod scripts;

@@ -9,8 +9,8 @@ ghost use Rattle.prop_values.specs.Meaning.{value_of};
 ghost use Rattle.edit_words.specs.Reading.{IsEditKind};
 
 use crate::decimals::read_decimal;
-use crate::hex_words::{read_bytes, read_guid};
 use carrier_io::NoMemory;
+use prop_names::{bytes_of_digits, guid_of_digits};
 use prop_values::{Kind, Value};
 use std::alloc::Global;
 
@@ -67,11 +67,11 @@ pub fn read_value(alloc: Global, kind: Kind, word: &str) -> Result<Option<Value<
             let bytes = read_text(alloc, word)?;
             Ok(Some(Value::Bytes { kind, bytes }))
         }
-        Kind::Binary => match read_bytes(alloc, word.as_bytes())? {
+        Kind::Binary => match bytes_of_digits(alloc, word.as_bytes())? {
             Some(bytes) => Ok(Some(Value::Bytes { kind, bytes })),
             None => Ok(None),
         },
-        Kind::Guid => match read_guid(word.as_bytes()) {
+        Kind::Guid => match guid_of_digits(word.as_bytes()) {
             Some(set) => Ok(Some(Value::Guid(set))),
             None => Ok(None),
         },

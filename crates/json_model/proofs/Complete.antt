@@ -11,12 +11,13 @@ use Rattle.serde_json.specs.Data.{Data, string, array, object, Items, no_items, 
 use Rattle.serde_json.specs.Data as json
 use Rattle.carrier_model.specs.Bytes.{units_of, unit_bytes}
 use Rattle.carrier_model.specs.Keys.{Key, id, named, Name, numbered, texted, IsKey}
+use Rattle.carrier_model.specs.HexDigits.{is_hex, is_digit, number_in}
 use Rattle.carrier_model.specs.KeyTexts.{hex_digits, upper}
 use Rattle.carrier_model.specs.KindNames.{kind_names}
 use Rattle.carrier_model.specs.Lists.{looked_up}
 use Rattle.carrier_model.specs.Values.{list_limit}
 use Rattle.json_model.specs.ByteTrees.{AreBytes}
-use Rattle.json_model.specs.Digits.{hex, is_hex, is_digit, number_in, read_groups, read_hex, read_guid, read_id}
+use Rattle.json_model.specs.Digits.{hex, read_groups, read_hex, read_guid, read_id}
 use Rattle.json_model.specs.Faults.{JsonFault, mapped}
 use Rattle.json_model.specs.JsonMeanings.{HasMembers, OfMember, HexMeans, TextMeans, NameMeans, NumberMeans, ItemsMean, ArrayMeans, KeyMeans, KindMeans}
 use Rattle.json_model.specs.Parts.{has_members, number_below, in_turn, read_each}
@@ -24,7 +25,8 @@ use Rattle.json_model.specs.Properties.{NUMBERED, TEXTED, MOST_UNITS, read_named
 use Rattle.json_model.specs.Texts.{UNITS, read_units, read_text, read_name}
 use Rattle.json_model.proofs.Keys.{not_members_second, firsts_differ, false_if}
 use Rattle.serde_json.specs.Find.{get}
-use Rattle.json_model.proofs.HexLaws.{and_true, and_both, hex_reads, reads_digit}
+use Rattle.json_model.proofs.HexLaws.{and_true, and_both, hex_reads}
+use Rattle.carrier_model.proofs.HexDigits.{reads_digit}
 
 -- ---- digits
 
@@ -56,7 +58,7 @@ id_read n lt =
     let c = reads_digit upper (n / 16 % 16) (omega arith) (omega arith) in
     let d = reads_digit upper (n % 16) (omega arith) (omega arith) in
     let digits : (list_all (is_digit upper) (hex_digits upper 4 n) && (length (hex_digits upper 4 n) == 4)) ≡ true = rw (a.digit, b.digit, c.digit, d.digit) refl in
-    let is : number_in (hex_digits upper 4 n) ≡ n = rw (a.value, b.value, c.value, d.value) (let e : 16 * (16 * (16 * (n / 16 / 16 / 16 % 16) + n / 16 / 16 % 16) + n / 16 % 16) + n % 16 ≡ n = omega (arith, lt) in e) in
+    let is : number_in (hex_digits upper 4 n) ≡ n = rw (a.value, b.value, c.value, d.value) (let e : 16 * (16 * (16 * (0 + n / 16 / 16 / 16 % 16) + n / 16 / 16 % 16) + n / 16 % 16) + n % 16 ≡ n = omega (arith, lt) in e) in
     let small : nat_lt (number_in (hex_digits upper 4 n)) 0x8000 ≡ true = ap (λ m. nat_lt m 0x8000) is ∙ grind (arith, nat_tests) in
     rw (digits, small) (ap Ok is)
 

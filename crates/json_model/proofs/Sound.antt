@@ -10,10 +10,11 @@ use Rattle.serde_json.specs.Data.{Data, null, boolean, string, array, object, It
 use Rattle.serde_json.specs.Data as json
 use Rattle.carrier_model.specs.Bytes.{units_of}
 use Rattle.carrier_model.specs.Keys.{Key, id, named, Name, numbered, texted, IsKey}
+use Rattle.carrier_model.specs.HexDigits.{is_hex, is_digit, digit_of, bytes_in, number_in}
 use Rattle.carrier_model.specs.KeyTexts.{hex_digits, hex_digit, lower, upper}
 use Rattle.carrier_model.specs.Trees.{KeyHasUnits}
 use Rattle.json_model.specs.ByteTrees.{AreBytes}
-use Rattle.json_model.specs.Digits.{hex, is_hex, is_digit, digit_of, bytes_in, number_in, read_groups, read_hex, read_guid, read_id}
+use Rattle.json_model.specs.Digits.{hex, read_groups, read_hex, read_guid, read_id}
 use Rattle.json_model.specs.Faults.{JsonFault, Shape, ◌>>=◌, check, under, mapped, fault_here, digits, range, form}
 use Rattle.json_model.specs.JsonMeanings.{HexMeans, TextMeans, NameMeans, NumberMeans, ItemsMean, ArrayMeans, KeyMeans}
 use Rattle.json_model.specs.Parts.{has_members, formed, member_at, number_below, in_turn, read_each, items_at}
@@ -22,7 +23,8 @@ use Rattle.json_model.specs.Texts.{UNITS, read_units, read_text, read_name, utf1
 use Rattle.json_model.proofs.Complete.{units_half, text_even}
 use Rattle.json_model.proofs.Meant.{turns_all, unit_bytes_are}
 use Rattle.json_model.proofs.WellFormed.{units_small}
-use Rattle.json_model.proofs.HexLaws.{and_true, hex_prints, prints_digit}
+use Rattle.json_model.proofs.HexLaws.{and_true, hex_prints}
+use Rattle.carrier_model.proofs.HexDigits.{prints_digit}
 
 -- ---- steps
 
@@ -102,7 +104,7 @@ four (a ∷ b ∷ c ∷ d ∷ []) l h =
     let j = digit_of upper b in
     let k = digit_of upper c in
     let m = digit_of upper d in
-    let n = 16 * (16 * (16 * i + j) + k) + m in
+    let n = 16 * (16 * (16 * (0 + i) + j) + k) + m in
     let e : n / 16 / 16 / 16 % 16 ≡ i = omega (arith, p.small, q.small, r.small, t.small) in
     let f : n / 16 / 16 % 16 ≡ j = omega (arith, p.small, q.small, r.small, t.small) in
     let g : n / 16 % 16 ≡ k = omega (arith, p.small, q.small, r.small, t.small) in

@@ -4,9 +4,9 @@ ghost use Rattle.carrier_model.specs.FileTrees.{files_from, sibling_cmp};
 ghost use Rattle.msg_tree.specs.Gathering.{gathered, in_order};
 ghost use Rattle.msg_tree.specs.StoreMeaning.{store_of, entry_of, member_of};
 
-use crate::sibling_order::sibling_order;
 use crate::stores::{Entry, Member, Store};
 use carrier_io::{Blob, NoMemory};
+use cfb_names::sibling_order;
 use std::alloc::Global;
 use std::cmp::Ordering;
 

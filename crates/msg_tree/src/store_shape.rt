@@ -6,9 +6,9 @@ ghost use Rattle.carrier_model.specs.Stores.{PROPERTIES as plain_properties, has
 ghost use Rattle.msg_tree.specs.Shapes.{FitsWithin, MemberFits, ItemFits, RisesAt, is_bytes};
 ghost use Rattle.msg_tree.specs.StoreMeaning.{store_of, member_of};
 
-use crate::sibling_order::sibling_order;
 use crate::stores::{Member, Store};
 use carrier_io::Blob;
+use cfb_names::sibling_order;
 use std::cmp::Ordering;
 
 /// The greatest number of units of a name.

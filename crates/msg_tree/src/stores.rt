@@ -7,8 +7,8 @@ ghost use Rattle.carrier_model.specs.Stores.{AreInOrder};
 ghost use Rattle.msg_tree.specs.Inserting.{HasName, IsMemberRefusal};
 ghost use Rattle.msg_tree.specs.StoreMeaning.{store_of, entry_of, member_of};
 
-use crate::sibling_order::sibling_order;
 use carrier_io::{Blob, NoMemory};
+use cfb_names::sibling_order;
 use std::alloc::Global;
 use std::cmp::Ordering;
 

@@ -2,6 +2,7 @@
 #![tactic(auto)]
 
 pub mod digits;
+pub mod hex_digits;
 pub mod key_texts;
 pub mod keys;
 pub mod labels;
@@ -10,6 +11,7 @@ pub mod names;
 pub mod number_texts;
 
 pub use digits::{lower_digits2, upper_digits2, upper_digits4, upper_digits8, upper_digits16};
+pub use hex_digits::{bytes_of_digits, guid_of_digits, number_of_eight, number_of_four};
 pub use key_texts::{print_guid, print_key, print_unit};
 pub use keys::Key;
 pub use labels::set_label;

@@ -6,8 +6,8 @@ ghost use Rattle.carrier_model.specs.FileTrees.{sibling_cmp};
 ghost use Rattle.json_model.specs.StoreForms as plain;
 ghost use Rattle.tree_from_json.specs.Entries.{entry_of};
 
-use crate::siblings::sibling_order;
 use carrier_io::Units;
+use cfb_names::sibling_order;
 use prop_names::Guid;
 use std::cmp::Ordering;
 

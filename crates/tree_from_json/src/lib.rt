@@ -15,7 +15,6 @@ mod read_stores;
 mod read_texts;
 mod read_trees;
 mod read_values;
-mod siblings;
 
 pub use read_ends::{JsonEnd, JsonFault, Shape};
 pub use read_trees::tree_of;

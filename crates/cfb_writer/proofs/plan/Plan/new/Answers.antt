@@ -1,7 +1,6 @@
-use Rattle.std.proofs.Common.{◌≡◌, ◌<◌, length, map, ap, sym, ◌∙◌, arith}
+use Rattle.std.proofs.Common.{◌≡◌, ◌<◌, length, ap, sym, ◌∙◌, arith}
 use Rattle.cfb_list.specs.Listed.{Listed, tree_of}
 use Rattle.cfb_writer.specs.Planned.{laid_of}
-use Rattle.cfb_list.specs.Sorting.{siblings_in_order}
 use Rattle.cfb_writer.specs.Totals.{totals_of}
 use Rattle.cfb_writer.specs.Versions.{sector_of}
 use Rattle.cfb_writer.proofs.FileSizes.{end_of, file_is, plan_of_files, sound_fits}

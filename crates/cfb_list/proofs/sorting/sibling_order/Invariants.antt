@@ -1,9 +1,0 @@
-use Rattle.std.proofs.Common.{◌≡◌, map}
-use Rattle.std.specs.Char.{to_ascii_uppercase}
-use Rattle.std.specs.Cmp.Lexicographic.{slice_cmp}
-use Rattle.std.specs.Ordering.{nat_cmp}
-use Rattle.cfb_list.proofs.SortedFiles.{order_from}
-use Rattle.cfb_list.proofs.sorting.sibling_order.Given as goal
-
-abbrev pub invariant-loop-k : goal.invariant-loop-k
-invariant-loop-k l = slice_cmp nat_cmp (map to_ascii_uppercase l.one) (map to_ascii_uppercase l.other) ≡ order_from l.one l.other l.k

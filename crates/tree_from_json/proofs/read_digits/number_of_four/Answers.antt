@@ -1,9 +1,0 @@
-use Rattle.std.proofs.Common.{arith}
-use Rattle.tree_from_json.proofs.Hex.{four_are}
-use Rattle.tree_from_json.proofs.read_digits.number_of_four.Goals as goal
-
-pub returns : goal.returns
-returns c =
-    four_are c.args.text.now _ _ _ _ (omega (arith, c.if-text-ne4.false))
-    (rw c.from-first.ensures c.in_ok-digit_of.ensures.value) (rw c.from-second.ensures c.in_ok-digit_of-2.ensures.value)
-    (rw c.from-third.ensures c.in_ok-digit_of-3.ensures.value) (rw c.from-fourth.ensures c.in_ok-digit_of-4.ensures.value)
