@@ -2,5 +2,7 @@
 #![tactic(auto)]
 
 mod order;
+mod property_stream;
 
 pub use order::sibling_order;
+pub use property_stream::is_property_stream;

@@ -1,15 +1,15 @@
 -- Digits stand in a string as they are.
-use Rattle.std.proofs.Common.{◌≡◌, ◌∙◌, ap, sym, refl, ℕ, ◌+◌, ◌-◌, ◌*◌, ◌/◌, ◌%◌, ◌<◌, ◌≤◌, List, [], ◌∷◌, ◌++◌, length, take, drop, append_assoc, arith}
-use Rattle.std.specs.Prelude.{codes, nat_lt, cond}
+use Rattle.std.proofs.Common.{◌≡◌, ◌∙◌, ap, sym, refl, ℕ, ◌+◌, ◌-◌, ◌/◌, ◌%◌, ◌<◌, ◌≤◌, List, [], ◌∷◌, ◌++◌, take, drop, append_assoc, arith}
+use Rattle.std.specs.Prelude.{codes, nat_lt}
 use Rattle.carrier_model.specs.KeyTexts.{hex_digit, hex_digits, lower}
-use Rattle.json.specs.Print.{escape_byte, escape, quoted}
+use Rattle.json.specs.Print.{escape_byte, escape}
 use Rattle.serde_json.specs.Data.{object, member, no_members}
 use Rattle.serde_json.specs.Written.{compact_text}
 use Rattle.json_model.specs.Digits.{hex}
 use Rattle.json_model.specs.Properties.{hex_json}
 use Rattle.std.specs.Prelude.{Bool, true, false}
 use Rattle.std.proofs.lemmas.Bool.Decides.{nat_tests}
-use Rattle.std.proofs.lemmas.List.{append-nil, take-append-drop}
+use Rattle.std.proofs.lemmas.List.{take-append-drop}
 use Rattle.std.proofs.lemmas.List.Concat.{flat_map-append}
 use Rattle.json.proofs.Printed.Strings.{escape_byte_plain}
 use Rattle.json_writer.proofs.Lists.{escape-append}

@@ -1,21 +1,20 @@
 -- What the decoder makes of units is what they spell.
-use Rattle.std.proofs.Common.{◌≡◌, ℕ, ◌+◌, ◌<◌, ◌≤◌, List, [], ◌∷◌, ◌++◌, Bool, true, false, Option, None, Some, refl, sym, ap, ◌∙◌, append_assoc, arith, true≢false}
-use Rattle.std.specs.Prelude.{nat_le, nat_lt, not, ◌&&◌, is_some, map, codes}
+use Rattle.std.proofs.Common.{◌≡◌, ℕ, ◌<◌, ◌≤◌, List, [], ◌∷◌, ◌++◌, Bool, true, false, Option, None, Some, refl, sym, ap, ◌∙◌, arith, true≢false}
+use Rattle.std.specs.Prelude.{nat_le, nat_lt, not, is_some, map, codes}
 use Rattle.std.specs.Option.{unwrap_or}
 use Rattle.std.proofs.lemmas.Bool.Decides.{nat_tests}
 use Rattle.std.specs.Char.{encode_utf8}
 use Rattle.std.specs.Char.Utf16.{has_unpaired_surrogate, utf16_chars, lone_unit_char, surrogate_pair_char, is_high_surrogate, is_low_surrogate}
 use Rattle.std.specs.Str.{encode_utf8_all}
 use Rattle.std.specs.List.{list_any}
-use Rattle.std.proofs.Math.Utf8.{scalar}
-use Rattle.json.specs.Print.{escape_byte, escape}
+use Rattle.json.specs.Print.{escape}
 use Rattle.carrier_model.specs.Bytes.{units_of}
 use Rattle.serde_json.specs.Data.{object, member, no_members}
 use Rattle.serde_json.specs.Written.{compact_text}
 use Rattle.json_model.specs.Properties.{hex_json}
 use Rattle.json_model.specs.Texts.{utf8_of, text_json}
 use Rattle.json_writer.proofs.Lists.{escape-append}
-use Rattle.json_writer.specs.Units.{character, completed, waiting, fits, character_text, units_text, all_fit}
+use Rattle.json_writer.specs.Units.{character, units_text, all_fit}
 
 -- ---- surrogates by themselves
 

@@ -1,14 +1,9 @@
 -- The stream of a name among the members of a store.
-use Rattle.std.proofs.Common.{◌≡◌, ◌∙◌, ap, refl, sym, ℕ, zero, suc, ◌+◌, ◌<◌, Bool, true, false, List, [], ◌∷◌, length, drop, Some, arith}
+use Rattle.std.proofs.Common.{◌≡◌, ◌∙◌, ap, refl, sym, ℕ, zero, suc, ◌+◌, ◌<◌, Bool, false, List, [], ◌∷◌, length, drop, Some, arith}
 use Rattle.std.specs.Prelude.{slice_get, ◌||◌, ◌&&◌}
-use Rattle.std.specs.declared.cmp.Ordering.{Ordering}
-use Rattle.std.specs.declared.cmp.Ordering.TheVariants.{Equal}
-use Rattle.std.proofs.lemmas.Slice.Eq.{bytes_eq-Decides}
-use Rattle.carrier_model.specs.FileTrees.{FileTree, Member, Named, bytes_at, store_at, files_from, files_listed, sibling_cmp}
-use Rattle.carrier_model.specs.Files.{folded}
+use Rattle.carrier_model.specs.FileTrees.{FileTree, Member, Named, bytes_at, store_at, files_from, files_listed}
 use Rattle.carrier_model.specs.Lookups.{same_name}
 use Rattle.carrier_model.specs.Stores.{has_stream}
-use Rattle.carrier_model.proofs.StoreOrder.{equal_folded, folded_equal}
 use Rattle.carrier_model.proofs.Trees.{drop_at}
 use Rattle.msg_tree.specs.Shapes.{is_bytes}
 use Rattle.msg_tree.proofs.Stored.{listed-files}
@@ -35,14 +30,3 @@ has_none wanted xs k lt = ap (has_from wanted) (all_dropped xs k lt)
     all_dropped [] (suc j) h = refl
     all_dropped (y ∷ ys) zero h = absurd (omega (arith, h))
     all_dropped (y ∷ ys) (suc j) h = all_dropped ys j (omega (arith, h))
-
--- names that are equal in the order of siblings are the same
-pub same_from : (m n : List ℕ) → Equal ≡ sibling_cmp m n → true ≡ same_name m n
-same_from m n e = sym ((bytes_eq-Decides (folded m) (folded n)).1 (equal_folded m n (sym e)))
-
-pub other_from : (m n : List ℕ) (o : Ordering) → (o ≡ Equal → ⊥) → o ≡ sibling_cmp m n → false ≡ same_name m n
-other_from m n o h e = by (same_name m n) (bytes_eq-Decides (folded m) (folded n))
-  where
-    by : (b : Bool) → ((b ≡ true → folded m ≡ folded n) × (folded m ≡ folded n → b ≡ true)) → false ≡ b
-    by true d = absurd (h (e ∙ folded_equal m n (d.0 refl)))
-    by false d = refl

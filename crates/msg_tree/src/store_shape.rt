@@ -8,7 +8,7 @@ ghost use Rattle.msg_tree.specs.StoreMeaning.{store_of, member_of};
 
 use crate::stores::{Member, Store};
 use carrier_io::Blob;
-use cfb_names::sibling_order;
+use cfb_names::{is_property_stream, sibling_order};
 use std::cmp::Ordering;
 
 /// The greatest number of units of a name.
@@ -16,12 +16,6 @@ const GREATEST_NAME: usize = 31;
 
 /// The most storages that stand one below another.
 const MOST_STORAGES: u64 = 32;
-
-/// The name of the stream that makes a storage a message: `__properties_version1.0`.
-const PROPERTIES: [u16; 23] = [
-    95, 95, 112, 114, 111, 112, 101, 114, 116, 105, 101, 115, 95, 118, 101, 114, 115, 105, 111,
-    110, 49, 46, 48,
-];
 
 /// Whether a store keeps to what one in an attachment keeps to.
 pub fn is_store<B: Blob>(store: &Store<B>) -> bool
@@ -50,18 +44,8 @@ fn is_list<B: Blob>(name: &[u16], member: &Member<B>) -> bool
     ensures { result ≡ (is_bytes (member_of B.bytes member.now) && same_name name.now plain_properties) }
 {
     match member {
-        Member::Stream(_) => is_properties(name),
+        Member::Stream(_) => is_property_stream(name),
         Member::Storage(_) => false,
-    }
-}
-
-fn is_properties(name: &[u16]) -> bool
-    ensures { result ≡ same_name name.now plain_properties }
-{
-    match sibling_order(name, &PROPERTIES) {
-        Ordering::Less => false,
-        Ordering::Equal => true,
-        Ordering::Greater => false,
     }
 }
 

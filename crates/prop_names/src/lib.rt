@@ -13,7 +13,7 @@ pub mod number_texts;
 pub use digits::{lower_digits2, upper_digits2, upper_digits4, upper_digits8, upper_digits16};
 pub use hex_digits::{bytes_of_digits, guid_of_digits, number_of_eight, number_of_four};
 pub use key_texts::{print_guid, print_key, print_unit};
-pub use keys::Key;
+pub use keys::{FIRST_NAMED, Key};
 pub use labels::set_label;
 pub use name_set::NameSet;
 pub use names::{Guid, Name, TextName};

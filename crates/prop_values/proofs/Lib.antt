@@ -3,3 +3,4 @@ pub mod Doubles
 pub mod Ranks
 mod Spots
 pub mod Arriving
+mod ObjectPlaces

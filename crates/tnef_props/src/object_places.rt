@@ -4,14 +4,7 @@ ghost use Rattle.carrier_model.specs.Kinds.{comes_before_object};
 ghost use Rattle.carrier_model.specs.Values.{Prop as PlainProp};
 
 use carrier_io::Blob;
-use prop_names::Key;
 use prop_values::Props;
-
-/// The id of an attachment's Object.
-const OBJECT_ID: u16 = 0x3701;
-
-/// The type of an Object.
-const OBJECT_TYPE: u16 = 0x000d;
 
 /// How many properties come before the Object of an attachment, whose tag is 3701000D. [MS-OXTNEF 2.1.3.4]
 pub fn object_place<B: Blob>(props: &Props<B>) -> usize
@@ -20,5 +13,5 @@ pub fn object_place<B: Blob>(props: &Props<B>) -> usize
     ensures before { take result props.now ≡ filter comes_before_object props.now }
     ensures behind { drop result props.now ≡ filter (λ (p : PlainProp). not (comes_before_object p)) props.now }
 {
-    props.count_before(&Key::Id(OBJECT_ID), OBJECT_TYPE)
+    props.count_before_object()
 }

@@ -11,10 +11,7 @@ ghost use Rattle.tnef_props.specs.Named.{label_field, HasKey};
 
 use crate::short::{append_array, append_few_zeros};
 use carrier_io::{Failed, Sink, Units, le16, le32, pad4};
-use prop_names::{Key, Name, NameSet};
-
-/// Ids from here on stand for names.
-const FIRST_NAMED: u16 = 0x8000;
+use prop_names::{FIRST_NAMED, Key, Name, NameSet};
 
 /// The id that stands for a name: its place among the names, from 8000 on.
 fn id_of(names: &NameSet, name: &Name) -> u16

@@ -7,7 +7,6 @@ pub mod Paths
 pub mod Props
 pub mod Reading
 pub mod Shaped
-pub mod SiblingNames
 pub mod SomeNames
 pub mod Turns
 pub mod WholeMessages

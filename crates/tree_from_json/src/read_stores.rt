@@ -3,8 +3,6 @@ ghost use Rattle.std.specs.Prelude.{◌≡◌, ◌<◌, ◌++◌, ◌∷◌, [],
 ghost use Rattle.std.specs.List.{list_all};
 ghost use Rattle.json_values.specs.View.{view};
 ghost use Rattle.carrier_model.specs.FileTrees.{sorted};
-ghost use Rattle.carrier_model.specs.Lookups.{same_name};
-ghost use Rattle.carrier_model.specs.Stores.{PROPERTIES as plain_properties};
 ghost use Rattle.json_model.specs.StoreForms as plain;
 ghost use Rattle.msg_tree.specs.Gathering.{gathered};
 ghost use Rattle.msg_tree.specs.StoreMeaning.{store_of};
@@ -17,21 +15,14 @@ use crate::read_ends::{ReadEnd, Shape, fault_here, under};
 use crate::read_entries::read_entries;
 use crate::read_parts::{has_members, member};
 use carrier_io::{NoMemory, Units};
-use cfb_names::sibling_order;
+use cfb_names::is_property_stream;
 use json::Value;
 use msg_tree::{Member, Members, Store};
 use std::alloc::Global;
-use std::cmp::Ordering;
 use std::collections::VecDeque;
 
 /// The most storages that stand one below another.
 const MOST_STORAGES: usize = 32;
-
-/// The name of the stream that makes a storage a message: `__properties_version1.0`. [MS-OXMSG 2.4]
-const PROPERTIES: [u16; 23] = [
-    95, 95, 112, 114, 111, 112, 101, 114, 116, 105, 101, 115, 95, 118, 101, 114, 115, 105, 111,
-    110, 49, 46, 48,
-];
 
 fn last_name(path: &[Units]) -> &[u16]
     ensures { result.now ≡ plain.last_name path.now }
@@ -42,19 +33,13 @@ fn last_name(path: &[Units]) -> &[u16]
     }
 }
 
-fn is_properties(name: &[u16]) -> bool
-    ensures { result ≡ same_name name.now plain_properties }
-{
-    matches!(sibling_order(name, &PROPERTIES), Ordering::Equal)
-}
-
 /// Whether an entry is no storage that stands too deep, and no stream that makes the store a message.
 fn is_fit(entry: &Entry) -> bool
     ensures { result ≡ plain.is_fit (entry_of entry.now) }
 {
     match entry {
         Entry::Storage { path, .. } => path.len() <= MOST_STORAGES,
-        Entry::Stream { path, .. } => path.len() != 1 || !is_properties(last_name(path)),
+        Entry::Stream { path, .. } => path.len() != 1 || !is_property_stream(last_name(path)),
     }
 }
 

@@ -1,15 +1,14 @@
 -- The text of a tree is UTF-8, and has the tokens of the tree's value.
-use Rattle.std.proofs.Common.{◌≡◌, ◌∙◌, ap, sym, refl, subst, ℕ, zero, suc, ◌-◌, ◌+◌, ◌*◌, ◌/◌, ◌%◌, ◌^◌, ◌<◌, ◌≤◌, List, [], ◌∷◌, ◌++◌, map, Bool, true, false, Option, None, Some, IsUtf8, ℤ, arith, true≢false, cond}
-use Rattle.std.specs.Prelude.{codes, ◌==◌, ◌&&◌, nat_lt, nat_le, unwrap_or}
+use Rattle.std.proofs.Common.{◌≡◌, ◌∙◌, ap, sym, refl, ℕ, zero, suc, ◌-◌, ◌*◌, ◌/◌, ◌%◌, ◌^◌, ◌<◌, ◌≤◌, List, [], ◌∷◌, ◌++◌, map, Bool, true, false, Option, Some, IsUtf8, arith, cond}
+use Rattle.std.specs.Prelude.{codes, ◌==◌, nat_lt, unwrap_or}
 use Rattle.std.specs.List.{AllByRecursion, list_all}
 use Rattle.std.specs.Char.Utf16.{has_unpaired_surrogate}
 use Rattle.std.proofs.lemmas.Bool.{and_parts}
 use Rattle.std.proofs.lemmas.Bool.Decides.{nat_tests}
 use Rattle.std.proofs.lemmas.Fmt.{IsAscii-decimal}
 use Rattle.std.proofs.lemmas.Str.{IsUtf8-append, IsUtf8-nil, IsUtf8-from_ascii}
-use Rattle.json.specs.Json as json
 use Rattle.json.specs.Lex.{tokens}
-use Rattle.json.specs.Print.{quoted, print}
+use Rattle.json.specs.Print.{quoted}
 use Rattle.json.specs.Tree.{HasNumbers, ItemsHaveNumbers, MembersHaveNumbers, json_tokens}
 use Rattle.json.proofs.Printed.Decimals.{IsNumber-decimal}
 use Rattle.json.proofs.Printed.Tokens.{tokens-print}
@@ -20,23 +19,22 @@ use Rattle.serde_json.specs.Data.{Num, unsigned, negative, float, Data, null, bo
 use Rattle.serde_json.specs.View.{items_of}
 use Rattle.serde_json.specs.Written.{outline, items_outline, members_outline, compact_text, items_text, members_text, comma_if}
 use Rattle.carrier_model.specs.Bytes.{units_of, unit_bytes}
-use Rattle.carrier_model.specs.FileTrees.{Store, FileTree}
-use Rattle.carrier_model.specs.FileTrees as files
+use Rattle.carrier_model.specs.FileTrees.{Store}
 use Rattle.carrier_model.specs.Keys.{Key, id, named, numbered, texted, IsKey}
 use Rattle.carrier_model.specs.KeyTexts.{hex_digit, hex_digits, lower, upper}
-use Rattle.carrier_model.specs.KindNames.{kind_names, kind_name}
+use Rattle.carrier_model.specs.KindNames.{kind_names}
 use Rattle.carrier_model.specs.Lists.{looked_up}
 use Rattle.carrier_model.specs.Tree.{Message, message, Attachments, no_more, attached, Body, nothing, embedded, stored}
 use Rattle.carrier_model.specs.Trees.{IsPropList, HasPropLists, HavePropLists, BodyHasPropLists}
 use Rattle.carrier_model.specs.Values as plain
 use Rattle.carrier_model.specs.Values.{Value, Prop, IsValue, IsProp, kind_of, width_in, number_widths, numbers_widths}
-use Rattle.json_model.specs.ByteTrees.{AreBytes, KeyHasBytes, ValueHasBytes, PropHasBytes, PropsHaveBytes, FilesHaveBytes, HasBytes, HaveBytes, BodyHasBytes}
+use Rattle.json_model.specs.ByteTrees.{AreBytes, ValueHasBytes, PropHasBytes, PropsHaveBytes, HasBytes, HaveBytes, BodyHasBytes}
 use Rattle.json_model.specs.Digits.{hex}
 use Rattle.json_model.specs.MessageForms.{json_of, json_text, attachments_json, attachment_members}
-use Rattle.json_model.specs.Properties.{listed_json, number_json, hex_json, key_json, kind_json, bytes_json, value_json, prop_json, props_json}
+use Rattle.json_model.specs.Properties.{number_json, hex_json, key_json, kind_json, bytes_json, value_json, prop_json, props_json}
 use Rattle.json_model.specs.StoreForms.{Entry, storage_entry, stream_entry, path_json, entry_json, entries_below, store_json}
 use Rattle.json_model.specs.Texts.{text_json, name_json, utf8_of}
-use Rattle.json_model.proofs.Meant.{by_turns, unit_bytes_are, turns_joined}
+use Rattle.json_model.proofs.Meant.{by_turns, unit_bytes_are}
 use Rattle.json_model.proofs.WellFormed.{units_small}
 use Rattle.tree_json.proofs.ReadBack.{tokens_of, below_all, small_among, any_turns}
 use Rattle.tree_json.proofs.Utf8Texts.{IsUtf8-utf8_of}

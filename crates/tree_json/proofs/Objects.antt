@@ -3,7 +3,7 @@ use Rattle.std.proofs.Common.{◌≡◌, ◌∙◌, ap, sym, refl, ℕ, List, []
 use Rattle.std.specs.Prelude.{codes, map}
 use Rattle.carrier_model.specs.FileTrees.{Store}
 use Rattle.carrier_model.specs.Keys.{named, numbered, texted}
-use Rattle.carrier_model.specs.Tree.{Message, message, Attachments, Body, nothing, embedded, stored}
+use Rattle.carrier_model.specs.Tree.{message, Attachments, Body, nothing, embedded, stored}
 use Rattle.carrier_model.specs.Values.{Prop, kind_of}
 use Rattle.json.specs.Print.{escape_byte}
 use Rattle.json_model.specs.MessageForms.{json_of, attachments_json, attachment_json}

@@ -1,11 +1,10 @@
 -- Walks over the members of a store, and over attachments.
-use Rattle.std.proofs.Common.{◌≡◌, ◌∙◌, ap, refl, sym, subst, ℕ, zero, suc, ◌+◌, ◌*◌, ◌/◌, ◌≤◌, ◌<◌, List, [], ◌∷◌, ◌++◌, length, map, take, take_all, drop, get_or, Some, Bool, true, true≢false, arith}
+use Rattle.std.proofs.Common.{◌≡◌, ◌∙◌, ap, refl, sym, subst, ℕ, zero, suc, ◌+◌, ◌≤◌, ◌<◌, List, [], ◌∷◌, ◌++◌, length, map, take, drop, Some, Bool, true, true≢false, arith}
 use Rattle.std.specs.Prelude.{slice_get, IfSome, ◌||◌, nat_lt}
 use Rattle.std.specs.List.{flat_map}
 use Rattle.std.proofs.lemmas.Grind.{flat_map-append}
 use Rattle.std.proofs.lemmas.List.{append-nil, map-append, append_assoc, take-append-drop}
 use Rattle.carrier_model.proofs.Messages.{taken_at}
-use Rattle.carrier_model.specs.Bytes.{units_of}
 use Rattle.carrier_model.specs.FileTrees as trees
 use Rattle.carrier_model.specs.FileTrees.{FileTree, Member, Named, bytes_at, store_at, files_listed, storage_depth}
 use Rattle.carrier_model.specs.Tree.{Attached, attachments_from}

@@ -1,4 +1,4 @@
-use Rattle.std.proofs.Common.{◌≡◌, ◌∙◌, sym, ap, add-one}
+use Rattle.std.proofs.Common.{◌∙◌, sym, ap, add-one}
 use Rattle.carrier_io.specs.Pieces.{joined}
 use Rattle.json_model.specs.Digits.{hex}
 use Rattle.json_writer.proofs.Counted.{stops, one_more, so_far_as}

@@ -1,4 +1,3 @@
-use Rattle.std.proofs.Common.{arith}
 use Rattle.json_writer.proofs.Counted.{partly_more, partly_stops}
 use Rattle.json_writer.proofs.HexStrings.{hex_parts}
 use Rattle.json_writer.proofs.digits.append_pairs.Goals as goal

@@ -1,6 +1,5 @@
-use Rattle.std.proofs.Common.{[], ◌∷◌, ◌++◌, refl}
+use Rattle.std.proofs.Common.{◌++◌}
 use Rattle.std.specs.Prelude.{codes}
-use Rattle.json.specs.Print.{escape_byte}
 use Rattle.json_model.specs.Digits.{hex}
 use Rattle.json_writer.proofs.Counted.{andthen, failing, counts_as}
 use Rattle.json_writer.proofs.HexStrings.{object_of_digits}

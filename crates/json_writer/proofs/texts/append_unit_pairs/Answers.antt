@@ -1,4 +1,4 @@
-use Rattle.std.proofs.Common.{◌≡◌, ◌∙◌, ◌+◌, ◌++◌, List, ℕ, sym, ap, drop, take, get_or}
+use Rattle.std.proofs.Common.{◌∙◌, ◌+◌, sym, ap, drop, take, get_or}
 use Rattle.carrier_model.specs.Bytes.{le16, unit_bytes}
 use Rattle.carrier_io.proofs.Known.{flat_map-at}
 use Rattle.json_model.specs.Digits.{hex}

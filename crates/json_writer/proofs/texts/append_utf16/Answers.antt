@@ -1,6 +1,4 @@
-use Rattle.std.proofs.Common.{◌≡◌, ◌∙◌, ap, sym, true, false, [], ◌∷◌, ◌++◌, List, ℕ}
-use Rattle.std.specs.Prelude.{not}
-use Rattle.carrier_model.specs.Bytes.{units_of}
+use Rattle.std.proofs.Common.{◌∙◌, sym}
 use Rattle.json_writer.proofs.Counted.{counts_as}
 use Rattle.json_writer.proofs.WellFormed.{string_of_units, object_of_units}
 use Rattle.json_writer.proofs.texts.append_utf16.Goals as goal

@@ -1,4 +1,4 @@
-use Rattle.std.proofs.Common.{◌≡◌, ◌∙◌, ap, sym, map, false, [], ◌∷◌, ◌++◌, List, ℕ}
+use Rattle.std.proofs.Common.{◌∙◌, ap, sym, map, false, List, ℕ}
 use Rattle.json_model.specs.Texts.{name_json}
 use Rattle.json_writer.proofs.Counted.{andthen, failing, counts_as}
 use Rattle.tree_json.specs.Lists.{behind}

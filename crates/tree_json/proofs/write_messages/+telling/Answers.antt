@@ -1,15 +1,15 @@
-use Rattle.std.proofs.Common.{◌≡◌, ◌++◌, ◌∙◌, ap, sym, subst, map, rules, arith}
+use Rattle.std.proofs.Common.{◌≡◌, ◌∙◌, ap, sym, subst, rules, arith}
 use Rattle.carrier_model.proofs.Trees.{depth_at_le}
-use Rattle.carrier_model.specs.Tree.{Body, Attached, attachments_from, embedded}
-use Rattle.json_model.specs.MessageForms.{json_of, attachment_json, attachments_json}
+use Rattle.carrier_model.specs.Tree.{Attached, attachments_from, embedded}
+use Rattle.json_model.specs.MessageForms.{json_of, attachment_json}
 use Rattle.json_writer.proofs.Counted.{andthen, failing, counts_as}
 use Rattle.msg_tree.proofs.Unrolled.{tree_out, attached_out}
 use Rattle.msg_tree.specs.declared.messages.Message.{out-Message}
 use Rattle.msg_tree.specs.declared.messages.Attachment.{out-Attachment}
-use Rattle.msg_tree.specs.Meaning.{tree_of, list_of, attached_of, body_of}
+use Rattle.msg_tree.specs.Meaning.{tree_of, list_of, body_of}
 use Rattle.serde_json.specs.Data.{array}
 use Rattle.serde_json.specs.Written.{compact_text}
-use Rattle.tree_json.specs.Bodies.{before_properties, MessageIsWhole, StoreIsWhole}
+use Rattle.tree_json.specs.Bodies.{before_properties}
 use Rattle.tree_json.specs.Wholes.{AttachedIsWhole, IsWhole}
 use Rattle.tree_json.proofs.Bodies.{message_made}
 use Rattle.tree_json.proofs.Lists.{listed_first, listed_init, listed_comma, listed_stops, listed_more, listed_ends}

@@ -1,4 +1,4 @@
-use Rattle.std.proofs.Common.{◌≡◌, ◌+◌, ◌*◌, ◌∷◌, map, take, false}
+use Rattle.std.proofs.Common.{◌+◌, ◌*◌, ◌∷◌, map, take, false}
 use Rattle.std.specs.List.{AllByRecursion}
 use Rattle.carrier_model.specs.Tree as plain
 use Rattle.json_model.specs.MessageForms.{attachment_json}

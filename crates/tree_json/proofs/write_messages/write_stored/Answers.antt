@@ -1,5 +1,5 @@
 use Rattle.std.proofs.Common.{◌≡◌, ◌∙◌, ap, sym}
-use Rattle.carrier_model.specs.Tree.{Body, stored}
+use Rattle.carrier_model.specs.Tree.{stored}
 use Rattle.json_writer.proofs.Counted.{andthen, failing, counts_as}
 use Rattle.msg_tree.specs.Meaning.{body_of}
 use Rattle.msg_tree.specs.StoreMeaning.{store_of}

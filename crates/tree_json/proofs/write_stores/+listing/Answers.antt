@@ -1,4 +1,4 @@
-use Rattle.std.proofs.Common.{◌≡◌, ◌++◌, ◌∙◌, [], ◌∷◌, List, ℕ, ap, sym, map, take, take_all, rules, arith}
+use Rattle.std.proofs.Common.{◌≡◌, ◌∙◌, ap, sym, map, take, take_all, rules, arith}
 use Rattle.carrier_model.specs.FileTrees.{Member, files_listed, Named, bytes_at, store_at}
 use Rattle.json_model.specs.StoreForms.{entry_json}
 use Rattle.json_writer.proofs.Counted.{andthen, failing, counts_as, one_more, so_far_as, stops, all_done}

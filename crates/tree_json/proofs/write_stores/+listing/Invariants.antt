@@ -1,4 +1,4 @@
-use Rattle.std.proofs.Common.{◌≡◌, ◌+◌, ◌*◌, take}
+use Rattle.std.proofs.Common.{◌+◌, ◌*◌, take}
 use Rattle.std.specs.List.{AllByRecursion}
 use Rattle.carrier_model.specs.FileTrees.{files_listed, storage_depth, Named}
 use Rattle.json_writer.proofs.Counted.{SoFar}

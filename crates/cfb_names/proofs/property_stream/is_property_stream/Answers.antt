@@ -1,6 +1,6 @@
 use Rattle.carrier_model.specs.Stores.{PROPERTIES}
-use Rattle.tree_from_json.proofs.SiblingNames.{same_from, other_from}
-use Rattle.tree_from_json.proofs.read_stores.is_properties.Goals as goal
+use Rattle.cfb_names.proofs.SiblingNames.{same_from, other_from}
+use Rattle.cfb_names.proofs.property_stream.is_property_stream.Goals as goal
 
 pub returns-in-Equal : goal.returns-in-Equal
 returns-in-Equal c = same_from c.args.name.now PROPERTIES c.in-Equal.ensures
