@@ -1,5 +1,5 @@
 use carrier_io::{MemorySink, Units};
-use cfb_names::sibling_order;
+use cfb_names::{is_property_stream, sibling_order};
 use prop_names::{
     Guid, Key, Name, NameSet, bytes_of_digits, guid_of_digits, lower_digits2, number_of_eight,
     number_of_four, print_key, set_label, upper_digits2, upper_digits16, write_decimal,
@@ -75,7 +75,9 @@ fn digits_are_read(rt: HostRuntime) -> Result<(), Fail> {
     for wrong in [b"0e1d", b"0E1G", b"0E1/"] {
         assert_eq!(rt; number_of_four(wrong), None);
     }
-    let bytes = bytes_of_digits(rt.alloc(), b"00c5ff").ok().ok_or("no memory")?;
+    let bytes = bytes_of_digits(rt.alloc(), b"00c5ff")
+        .ok()
+        .ok_or("no memory")?;
     assert!(rt; bytes.ok_or("no digits")?.as_slice() == [0, 0xc5, 0xff].as_slice());
     for wrong in [b"00C5", b"00cg", b"00c:"] {
         let bytes = bytes_of_digits(rt.alloc(), wrong).ok().ok_or("no memory")?;
@@ -89,9 +91,19 @@ fn digits_are_read(rt: HostRuntime) -> Result<(), Fail> {
 #[test]
 fn siblings_in_order(rt: HostRuntime) -> Result<(), Fail> {
     assert_eq!(rt; sibling_order(&[0x62], &[0x61, 0x61]), Ordering::Less);
-    assert_eq!(rt; sibling_order(&[0x61, 0x5a], &[0x41, 0x7a]), Ordering::Equal);
+    assert_eq!(rt;
+        sibling_order(&[0x61, 0x5a], &[0x41, 0x7a]),
+        Ordering::Equal
+    );
     assert_eq!(rt; sibling_order(&[0x61], &[0x5f]), Ordering::Less);
     assert_eq!(rt; sibling_order(&[0xe4], &[0xc4]), Ordering::Greater);
+    let mut name = [0; 23];
+    for k in 0..23 {
+        name[k] = u16::from(b"__PROPERTIES_version1.0"[k]);
+    }
+    assert!(rt; is_property_stream(&name));
+    name[22] = 0x31;
+    assert!(rt; !is_property_stream(&name));
     Ok(())
 }
 

@@ -5,6 +5,7 @@ use prop_names::{Guid, Key};
 use prop_values::compare::{same_prop, same_props};
 use prop_values::{
     Arrivals, Guids, InsertEnd, Kind, Parts, Prop, Props, SettleEnd, Shape, Value, kind_of,
+    utf16_bytes,
 };
 use std::alloc::Global;
 use std::cmp::Ordering;
@@ -154,6 +155,28 @@ fn kinds(rt: HostRuntime) -> Result<(), Fail> {
         (2, 1)
     );
     assert_eq!(rt; Value::<Vec<u8>>::Guid(Guid([0; 16])).kind(), Kind::Guid);
+    Ok(())
+}
+
+#[test]
+fn texts_in_utf16(rt: HostRuntime) -> Result<(), Fail> {
+    let bytes = utf16_bytes(rt.alloc(), "A\u{20ac}\u{10000}")
+        .ok()
+        .ok_or("no memory")?;
+    assert_eq!(rt;
+        bytes.as_slice(),
+        [0x41, 0, 0xac, 0x20, 0, 0xd8, 0, 0xdc].as_slice()
+    );
+    Ok(())
+}
+
+#[test]
+fn before_the_object(rt: HostRuntime) -> Result<(), Fail> {
+    let mut props = Props::new(rt.alloc());
+    for id in [0x3705, 0x3700, 0x3701] {
+        props.insert_sorted(integer(id, 1)).ok().ok_or("refused")?;
+    }
+    assert_eq!(rt; props.count_before_object(), 2);
     Ok(())
 }
 
