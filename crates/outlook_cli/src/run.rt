@@ -1,3 +1,4 @@
+//! A command from its words to its end: what is read, what is written, and the report.
 ghost use Rattle.std.specs.Prelude.{◌≡◌, ◌⊎◌, ◌≤◌, ◌+◌, ℕ, None, Some, length};
 ghost use Rattle.std.specs.Io.KnownBytes.{IsAtEnd};
 ghost use Rattle.carrier_io.specs.Causes.{Rose};
@@ -138,7 +139,9 @@ fn answer<I: Source, O: Sink>(
     }
 }
 
-/// Does what the words say.
+/// Does what the words behind the program's name say: reads the input to its end where they are a command that reads, writes
+/// the result to the output, and one line about other ends than Done to the report. The answer says how it ended; a report
+/// that fails changes nothing of it. Inputs have at most 268,435,456 bytes, JSON texts 33,554,432.
 pub fn run<I: Source, O: Sink, E: Sink>(
     alloc: Global,
     words: &[String],
