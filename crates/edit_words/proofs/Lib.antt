@@ -3,4 +3,3 @@ mod KeyWords
 mod EditSteps
 mod Numerals
 mod StepWords
-mod WideTexts

@@ -1,9 +1,7 @@
 //! Values.
-ghost use Rattle.std.specs.Prelude.{◌≡◌, ◌++◌, ◌+◌, IfOk, OnOk};
-ghost use Rattle.std.specs.Char.Escape.{encode_utf16};
+ghost use Rattle.std.specs.Prelude.{◌≡◌, ◌+◌, IfOk};
 ghost use Rattle.std.specs.Option.{option_map};
-ghost use Rattle.carrier_model.specs.Bytes.{unit_bytes};
-ghost use Rattle.edit_model.specs.EditWords.{number_value, numbers_below, value_of as value_meant, wide_text};
+ghost use Rattle.edit_model.specs.EditWords.{number_value, numbers_below, value_of as value_meant};
 ghost use Rattle.prop_values.specs.Kinds.{kind_number};
 ghost use Rattle.prop_values.specs.Meaning.{value_of};
 ghost use Rattle.edit_words.specs.Reading.{IsEditKind};
@@ -11,34 +9,8 @@ ghost use Rattle.edit_words.specs.Reading.{IsEditKind};
 use crate::decimals::read_decimal;
 use carrier_io::NoMemory;
 use prop_names::{bytes_of_digits, guid_of_digits};
-use prop_values::{Kind, Value};
+use prop_values::{Kind, Value, utf16_bytes};
 use std::alloc::Global;
-
-/// Puts the units of a character behind a text, the low byte of each first.
-fn push_character(text: &mut Vec<u8>, character: char) -> Result<(), NoMemory>
-    ensures { OnOk result (text.new.items ≡ text.old.items ++ unit_bytes (encode_utf16 character)) }
-{
-    let code = character as u32;
-    if code < 0x1_0000 {
-        text.extend_from_slice(&(code as u16).to_le_bytes())?;
-        return Ok(());
-    }
-    let over = code - 0x1_0000;
-    text.extend_from_slice(&((0xd800 + over / 0x400) as u16).to_le_bytes())?;
-    text.extend_from_slice(&((0xdc00 + over % 0x400) as u16).to_le_bytes())?;
-    Ok(())
-}
-
-/// The text in UTF-16, the low byte of each unit first.
-fn read_text(alloc: Global, word: &str) -> Result<Vec<u8>, NoMemory>
-    ensures { IfOk result (λ text. text.items ≡ wide_text word.now) }
-{
-    let mut text = Vec::new(alloc);
-    for character in word.chars() {
-        push_character(&mut text, character)?;
-    }
-    Ok(text)
-}
 
 /// A number of at most so much.
 fn read_number(kind: Kind, most: u64, word: &str) -> Option<Value<Vec<u8>>>
@@ -64,7 +36,7 @@ pub fn read_value(alloc: Global, kind: Kind, word: &str) -> Result<Option<Value<
 {
     match kind {
         Kind::String => {
-            let bytes = read_text(alloc, word)?;
+            let bytes = utf16_bytes(alloc, word)?;
             Ok(Some(Value::Bytes { kind, bytes }))
         }
         Kind::Binary => match bytes_of_digits(alloc, word.as_bytes())? {

@@ -1,8 +1,7 @@
 //! Texts of 16-bit units from strings, or from the digits of their bytes. [RFC 8259, section 8]
-ghost use Rattle.std.specs.Prelude.{◌≡◌, ◌++◌, IfOk, OnOk};
-ghost use Rattle.std.specs.Char.Escape.{encode_utf16};
-ghost use Rattle.carrier_model.specs.Bytes.{unit_bytes, units_of};
-ghost use Rattle.json_model.specs.Texts.{read_units as plain_units, read_text as plain_text, read_name as plain_name, utf16_of};
+ghost use Rattle.std.specs.Prelude.{◌≡◌, IfOk};
+ghost use Rattle.carrier_model.specs.Bytes.{units_of};
+ghost use Rattle.json_model.specs.Texts.{read_units as plain_units, read_text as plain_text, read_name as plain_name};
 ghost use Rattle.json_values.specs.View.{view};
 ghost use Rattle.tree_from_json.specs.Ends.{Reads};
 
@@ -12,30 +11,8 @@ use crate::read_parts::{has_members, member};
 use carrier_io::{NoMemory, Units};
 use json::Value;
 use json_values::as_str;
+use prop_values::utf16_bytes;
 use std::alloc::Global;
-
-/// Appends the units of a character, the low byte of each first.
-fn push_character(wide: &mut Vec<u8>, character: char) -> Result<(), NoMemory>
-    ensures { OnOk result (wide.new.items ≡ wide.old.items ++ unit_bytes (encode_utf16 character)) }
-{
-    let mut pair = [0; 2];
-    let units: &[u16] = character.encode_utf16(&mut pair);
-    for unit in units {
-        wide.extend_from_slice(&unit.to_le_bytes())?;
-    }
-    Ok(())
-}
-
-/// The units of a string, the low byte of each first.
-fn wide_text(alloc: Global, text: &str) -> Result<Vec<u8>, NoMemory>
-    ensures { IfOk result (λ v. v.items ≡ utf16_of text.now) }
-{
-    let mut wide = Vec::with_capacity(alloc, text.len())?;
-    for character in text.chars() {
-        push_character(&mut wide, character)?;
-    }
-    Ok(wide)
-}
 
 /// A text that is given by the digits of its units.
 fn read_units(alloc: Global, value: &Value) -> Result<Vec<u8>, ReadEnd>
@@ -53,7 +30,7 @@ pub(crate) fn read_text(alloc: Global, value: &Value) -> Result<Vec<u8>, ReadEnd
     ensures { Reads (λ v. v.items) (plain_text (view value.now)) result }
 {
     match as_str(value) {
-        Some(text) => Ok(wide_text(alloc, text)?),
+        Some(text) => Ok(utf16_bytes(alloc, text)?),
         None => read_units(alloc, value),
     }
 }

@@ -113,7 +113,7 @@ fn push_same(wide: &mut Vec<u8>, run: &[u8]) -> Result<(), NoMemory>
 }
 
 /// Appends a unit.
-pub(crate) fn push_unit(wide: &mut Vec<u8>, unit: u16) -> Result<(), NoMemory>
+fn push_unit(wide: &mut Vec<u8>, unit: u16) -> Result<(), NoMemory>
     ensures { OnOk result (wide.new.items ≡ wide.old.items ++ le16 unit) }
 {
     let [low, high] = unit.to_le_bytes();

@@ -1,8 +1,5 @@
 //! Texts of 8-bit characters, read in their page.
-ghost use Rattle.std.specs.Prelude.{◌≡◌, ◌++◌, None, OnOk, IfOk, IfErr};
-ghost use Rattle.std.specs.Char.Escape.{encode_utf16};
-ghost use Rattle.std.specs.List.{flat_map};
-ghost use Rattle.std.specs.Str.{chars};
+ghost use Rattle.std.specs.Prelude.{◌≡◌, None, IfOk, IfErr};
 ghost use Rattle.carrier_model.specs.Bytes.{unit_bytes};
 ghost use Rattle.text8_model.specs.Pages as plain;
 ghost use Rattle.text8_model.specs.Texts.{bad_place, units_in};
@@ -12,33 +9,11 @@ ghost use Rattle.tree_text8.specs.Meaning.{plain_page};
 
 use crate::ends::PartEnd;
 use crate::pages::Page;
-use crate::singles::{SinglePage, push_unit, wide_singles};
-use carrier_io::{Blob, NoMemory, copy_bytes};
+use crate::singles::{SinglePage, wide_singles};
+use carrier_io::{Blob, copy_bytes};
+use prop_values::utf16_bytes;
 use std::alloc::Global;
 use std::str;
-
-/// Appends the units of a character. [RFC 2781]
-fn push_character(wide: &mut Vec<u8>, c: char) -> Result<(), NoMemory>
-    ensures { OnOk result (wide.new.items ≡ wide.old.items ++ unit_bytes (encode_utf16 c)) }
-{
-    let mut pair = [0; 2];
-    let units: &[u16] = c.encode_utf16(&mut pair);
-    for unit in units {
-        push_unit(wide, *unit)?;
-    }
-    Ok(())
-}
-
-/// The units of characters, the low byte of each first.
-fn wide_characters(alloc: Global, text: &str) -> Result<Vec<u8>, NoMemory>
-    ensures { IfOk result (λ v. v.items ≡ unit_bytes (flat_map encode_utf16 (chars text.now))) }
-{
-    let mut wide = Vec::with_capacity(alloc, text.len())?;
-    for c in text.chars() {
-        push_character(&mut wide, c)?;
-    }
-    Ok(wide)
-}
 
 /// The units of a text in UTF-8, the low byte of each first.
 fn wide_utf8(alloc: Global, bytes: &[u8]) -> Result<Vec<u8>, PartEnd>
@@ -46,7 +21,7 @@ fn wide_utf8(alloc: Global, bytes: &[u8]) -> Result<Vec<u8>, PartEnd>
     ensures bad { IfErr result (IsBadAt (bad_place plain.utf_8 bytes.now)) }
 {
     match str::from_utf8(bytes) {
-        Ok(text) => Ok(wide_characters(alloc, text)?),
+        Ok(text) => Ok(utf16_bytes(alloc, text)?),
         Err(end) => Err(PartEnd::Bad {
             element: 0,
             at: end.valid_up_to(),

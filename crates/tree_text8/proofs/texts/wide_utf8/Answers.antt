@@ -7,10 +7,10 @@ use Rattle.carrier_model.specs.Bytes.{unit_bytes}
 use Rattle.tree_text8.proofs.Elements.{not_utf8}
 use Rattle.tree_text8.proofs.texts.wide_utf8.Goals as goal
 
-pub returns-in_ok-wide_characters-in-Ok-clause-ok : goal.returns-in_ok-wide_characters-in-Ok-clause-ok
-returns-in_ok-wide_characters-in-Ok-clause-ok c =
+pub returns-in_ok-utf16_bytes-in-Ok-clause-ok : goal.returns-in_ok-utf16_bytes-in-Ok-clause-ok
+returns-in_ok-utf16_bytes-in-Ok-clause-ok c =
     let text = c.in-Ok.ensures.cases in
-    (rw (is_utf8-from_IsUtf8 c.args.bytes.now text.1) refl, c.in_ok-wide_characters-in-Ok.ensures ∙ ap (λ l. unit_bytes (flat_map encode_utf16 (chars l))) text.0)
+    (rw (is_utf8-from_IsUtf8 c.args.bytes.now text.1) refl, c.in_ok-utf16_bytes-in-Ok.ensures ∙ ap (λ l. unit_bytes (flat_map encode_utf16 (chars l))) text.0)
 
 pub returns-in-Err-clause-bad : goal.returns-in-Err-clause-bad
 returns-in-Err-clause-bad c =
