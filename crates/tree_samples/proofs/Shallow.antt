@@ -1,5 +1,5 @@
 -- Samples are not too deep, and have no stores.
-use Rattle.std.proofs.Common.{◌≡◌, ℕ, zero, suc, ◌+◌, ◌%◌, ◌<◌, ◌⊎◌, inl, inr, ◌++◌, map, ap, subst, sym, arith}
+use Rattle.std.proofs.Common.{◌≡◌, ℕ, zero, suc, ◌+◌, ◌%◌, ◌≤◌, ◌++◌, map, ap, subst, sym, arith}
 use Rattle.std.specs.List.{range_with_len}
 use Rattle.carrier_model.specs.Tree.{Message, attachments_from, depth}
 use Rattle.job_model.proofs.SampleParts.{attachments_depth}
@@ -15,7 +15,8 @@ attachments_stores zero a zero = tt
 attachments_stores (suc below) a zero = (level_stores below 1, tt)
 attachments_stores levels a (suc n) = (tt, attachments_stores levels (a + 1) n)
 
--- so none is handed back
-pub not_refused : (n : ℕ) (t : Message) → t ≡ sample_tree n → (32 < depth t) ⊎ (HasStores t → ⊥) → ⊥
-not_refused n t e (inl deep) = let same : depth t ≡ depth (sample_tree n) = ap depth e in omega (arith, deep, same, attachments_depth (n % 33) 0 (n % 33))
-not_refused n t e (inr none) = none (subst HasStores (sym e) (attachments_stores (n % 33) 0 (n % 33)))
+pub sample_shallow : (n : ℕ) (t : Message) → t ≡ sample_tree n → depth t ≤ 32
+sample_shallow n t e = let same : depth t ≡ depth (sample_tree n) = ap depth e in omega (arith, same, attachments_depth (n % 33) 0 (n % 33))
+
+pub sample_stores : (n : ℕ) (t : Message) → t ≡ sample_tree n → HasStores t
+sample_stores n t e = subst HasStores (sym e) (attachments_stores (n % 33) 0 (n % 33))

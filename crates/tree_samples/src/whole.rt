@@ -62,8 +62,5 @@ pub fn sample(alloc: Global, number: u32) -> Result<Tree<Vec<u8>>, NoMemory>
         recipients: recipients(alloc, number % 2049)?,
         attachments: attachments(alloc, number % 33)?,
     };
-    let Ok(tree) = Tree::new(message) else {
-        unreachable!();
-    };
-    Ok(tree)
+    Ok(Tree::from_shallow(message))
 }

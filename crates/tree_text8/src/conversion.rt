@@ -24,8 +24,5 @@ pub fn unicode_of<B: Blob>(alloc: Global, tree: &Tree<B>) -> Result<Tree<Vec<u8>
 {
     let mut next = 0;
     let message = convert_message(alloc, FIRST_PAGE, tree.top(), &mut next)?;
-    match Tree::new(message) {
-        Ok(tree) => Ok(tree),
-        Err(_) => unreachable!(),
-    }
+    Ok(Tree::from_shallow(message))
 }
