@@ -9,19 +9,23 @@ use std::alloc::{AllocError, AllocFailed, Global};
 /// Why a JSON text is that of no tree.
 #[derive(Clone, Copy, Debug, PartialEq, Eq)]
 pub enum Shape {
-    /// The text is no JSON.
+    /// The bytes are no UTF-8 or no JSON, a number is past the greatest float of 64 bits, an escape is half of a surrogate
+    /// pair, or arrays and objects nest more than 127 deep.
     NotJson,
-    /// A value isn't of the type that stands there, or has other members.
+    /// A value isn't of the type that stands there, lacks a member or has another, or a path of a store's member has no
+    /// names.
     Form,
-    /// A property's kind has no such name.
+    /// No kind has this name.
     Kind,
-    /// A string isn't of as many hexadecimal digits.
+    /// A character is no hexadecimal digit of the case that has to stand there, or there are not as many as there have to
+    /// be; or `units` has an odd number of bytes.
     Digits,
-    /// A number, a text or a list is above what it may be.
+    /// A number has a fraction or an exponent (`1.0` too), is `-0`, below 0, or too large for its kind or for a name's 32
+    /// bits; a Boolean is above 1, an id is from 8000 upward; or a name, the bytes of a value or a list is too long.
     Range,
-    /// An element doesn't come behind the one before it.
+    /// A property doesn't come after the one before it, or a member of a store doesn't, or its storage isn't open.
     Order,
-    /// Messages or storages nest too deep.
+    /// A message is at level 33, or a store has storages more than 32 deep or the property stream of a message at its top.
     Deep,
 }
 
