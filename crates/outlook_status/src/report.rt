@@ -9,7 +9,7 @@ ghost use Rattle.text_model.specs.TreeTexts.{line};
 ghost use Rattle.msg_tree.specs.Limiting.{limit_of};
 ghost use Rattle.outlook_status.specs.Report.{line_of};
 ghost use Rattle.text8_model.specs.Unmapped.{unmapped_text, why_text};
-ghost use Rattle.tree_from_json.specs.Ends.{plain_fault as json_fault_of, shape_of};
+ghost use Rattle.tree_from_json.specs.Ends.{plain_fault as json_fault_of, why_of as json_why_of};
 ghost use Rattle.tree_edit.specs.Meaning.{fault_of as edit_fault_of, why_of as edit_why_of};
 ghost use Rattle.tree_text8.specs.Meaning.{unmapped_of, why_of};
 
@@ -20,7 +20,7 @@ use carrier_io::{
 use msg_tree::Limit;
 use prop_names::write_decimal;
 use tree_edit::{EditFault, EditWhy};
-use tree_from_json::{JsonFault, Shape};
+use tree_from_json::{JsonFault, JsonWhy};
 use tree_text8::{Unmapped, Why};
 use tree_texts::{write_count, write_counted, write_slashed};
 
@@ -86,17 +86,17 @@ fn write_undone<W: Sink>(sink: &mut W, fault: EditFault) -> Result<(), Failed>
 }
 
 /// The front of the line of a JSON text that means no message, which says why.
-fn why_no_tree(why: Shape) -> &'static [u8]
-    ensures { result.now ≡ codes "json " ++ (shape_name (shape_of why) ++ codes " at ") }
+fn why_no_tree(why: JsonWhy) -> &'static [u8]
+    ensures { result.now ≡ codes "json " ++ (shape_name (json_why_of why) ++ codes " at ") }
 {
     match why {
-        Shape::NotJson => b"json NotJson at ",
-        Shape::Form => b"json Form at ",
-        Shape::Kind => b"json Kind at ",
-        Shape::Digits => b"json Digits at ",
-        Shape::Range => b"json Range at ",
-        Shape::Order => b"json Order at ",
-        Shape::Deep => b"json Deep at ",
+        JsonWhy::NotJson => b"json NotJson at ",
+        JsonWhy::Form => b"json Form at ",
+        JsonWhy::Kind => b"json Kind at ",
+        JsonWhy::Digits => b"json Digits at ",
+        JsonWhy::Range => b"json Range at ",
+        JsonWhy::Order => b"json Order at ",
+        JsonWhy::Deep => b"json Deep at ",
     }
 }
 

@@ -7,25 +7,25 @@ use Rattle.tree_from_json.specs.declared.read_ends.JsonEnd.TheVariants as told
 use Rattle.tree_from_json.specs.declared.read_ends.JsonFault.{JsonFault}
 use Rattle.tree_from_json.specs.declared.read_ends.ReadEnd.{ReadEnd}
 use Rattle.tree_from_json.specs.declared.read_ends.ReadEnd.TheVariants as ends
-use Rattle.tree_from_json.specs.declared.read_ends.Shape.{Shape}
-use Rattle.tree_from_json.specs.declared.read_ends.Shape.TheVariants as shapes
+use Rattle.tree_from_json.specs.declared.read_ends.JsonWhy.{JsonWhy}
+use Rattle.tree_from_json.specs.declared.read_ends.JsonWhy.TheVariants as whys
 
-abbrev pub shape_of : Shape → plain.Shape
-shape_of shapes.NotJson = plain.not_json
-shape_of shapes.Form = plain.form
-shape_of shapes.Kind = plain.kind
-shape_of shapes.Digits = plain.digits
-shape_of shapes.Range = plain.range
-shape_of shapes.Order = plain.order
-shape_of shapes.Deep = plain.deep
+abbrev pub why_of : JsonWhy → plain.Shape
+why_of whys.NotJson = plain.not_json
+why_of whys.Form = plain.form
+why_of whys.Kind = plain.kind
+why_of whys.Digits = plain.digits
+why_of whys.Range = plain.range
+why_of whys.Order = plain.order
+why_of whys.Deep = plain.deep
 
 -- a fault while its value is read, whose steps come from the inside out
 abbrev pub fault_of : Fault → plain.JsonFault
-fault_of f = record { why = shape_of f.why; path = reverse f.steps }
+fault_of f = record { why = why_of f.why; path = reverse f.steps }
 
 -- a fault as it is told
 abbrev pub plain_fault : JsonFault → plain.JsonFault
-plain_fault f = record { why = shape_of f.why; path = f.path }
+plain_fault f = record { why = why_of f.why; path = f.path }
 
 -- A reading answers what the definitions give, seen by a view, or their first fault; or there was no memory.
 abbrev pub Reads : {A X : Type 0} → (X → A) → Result A plain.JsonFault → Result X ReadEnd → Type 0
@@ -35,7 +35,7 @@ Reads view model (Err ends.NoMemory) = Unit {0}
 
 -- a fault one step further down; or there was no memory for the step
 abbrev pub IsBelow : ℕ → Fault → ReadEnd → Type 0
-IsBelow step f (ends.Fault g) = fault_of g ≡ record { why = shape_of f.why; path = step ∷ reverse f.steps }
+IsBelow step f (ends.Fault g) = fault_of g ≡ record { why = why_of f.why; path = step ∷ reverse f.steps }
 IsBelow step f ends.NoMemory = Unit {0}
 
 -- the same of a part one step further down

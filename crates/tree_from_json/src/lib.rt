@@ -16,5 +16,5 @@ mod read_texts;
 mod read_trees;
 mod read_values;
 
-pub use read_ends::{JsonEnd, JsonFault, Shape};
+pub use read_ends::{JsonEnd, JsonFault, JsonWhy};
 pub use read_trees::tree_of;

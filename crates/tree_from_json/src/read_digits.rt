@@ -4,7 +4,7 @@ ghost use Rattle.json_model.specs.Digits as plain;
 ghost use Rattle.json_values.specs.View.{view};
 ghost use Rattle.tree_from_json.specs.Ends.{Reads};
 
-use crate::read_ends::{ReadEnd, Shape, fault_here};
+use crate::read_ends::{JsonWhy, ReadEnd, fault_here};
 use crate::read_parts::string;
 use json::Value;
 use prop_names::{Guid, bytes_of_digits, guid_of_digits, number_of_four};
@@ -17,11 +17,11 @@ pub(crate) fn read_groups(alloc: Global, value: &Value, group: usize) -> Result<
 {
     let text = string(alloc, value)?;
     if text.len() % group != 0 {
-        return Err(fault_here(alloc, Shape::Digits));
+        return Err(fault_here(alloc, JsonWhy::Digits));
     }
     match bytes_of_digits(alloc, text.as_bytes())? {
         Some(bytes) => Ok(bytes),
-        None => Err(fault_here(alloc, Shape::Digits)),
+        None => Err(fault_here(alloc, JsonWhy::Digits)),
     }
 }
 
@@ -39,7 +39,7 @@ pub(crate) fn read_guid(alloc: Global, value: &Value) -> Result<Guid, ReadEnd>
     let text = string(alloc, value)?;
     match guid_of_digits(text.as_bytes()) {
         Some(set) => Ok(set),
-        None => Err(fault_here(alloc, Shape::Digits)),
+        None => Err(fault_here(alloc, JsonWhy::Digits)),
     }
 }
 
@@ -49,7 +49,7 @@ pub(crate) fn read_id(alloc: Global, text: &str) -> Result<u16, ReadEnd>
 {
     match number_of_four(text.as_bytes()) {
         Some(number) if number < 0x8000 => Ok(number as u16),
-        Some(_) => Err(fault_here(alloc, Shape::Range)),
-        None => Err(fault_here(alloc, Shape::Digits)),
+        Some(_) => Err(fault_here(alloc, JsonWhy::Range)),
+        None => Err(fault_here(alloc, JsonWhy::Digits)),
     }
 }

@@ -8,7 +8,7 @@ use std::alloc::{AllocError, AllocFailed, Global};
 
 /// Why a JSON text is that of no tree.
 #[derive(Clone, Copy, Debug, PartialEq, Eq)]
-pub enum Shape {
+pub enum JsonWhy {
     /// The bytes are no UTF-8 or no JSON, a number is past the greatest float of 64 bits, an escape is half of a surrogate
     /// pair, or arrays and objects nest more than 127 deep.
     NotJson,
@@ -33,7 +33,7 @@ pub enum Shape {
 #[derive(Debug, Drop)]
 pub struct JsonFault {
     /// Why it is one.
-    pub why: Shape,
+    pub why: JsonWhy,
     /// The steps to it from the top down: an element's place, or that of a member in the order of keys, both from 0.
     pub path: Numbers,
 }
@@ -60,7 +60,7 @@ impl From<NoMemory> for JsonEnd {
 /// A fault while the values around it are read: its steps come from the inside out.
 #[derive(Debug, Drop)]
 pub(crate) struct Fault {
-    pub(crate) why: Shape,
+    pub(crate) why: JsonWhy,
     pub(crate) steps: Numbers,
 }
 
@@ -98,7 +98,7 @@ impl<T: Drop> From<AllocFailed<T>> for ReadEnd {
 }
 
 /// A fault of this very value.
-pub(crate) fn fault_here(alloc: Global, why: Shape) -> ReadEnd
+pub(crate) fn fault_here(alloc: Global, why: JsonWhy) -> ReadEnd
     ensures { result ≡ ends.Fault (record { why = why; steps = [] }) }
 {
     ReadEnd::Fault(Fault {

@@ -9,7 +9,7 @@ ghost use Rattle.tree_from_json.specs.Entries.{entry_of};
 
 use crate::entries::{Entry, comes_next};
 use crate::read_digits::{read_guid, read_hex};
-use crate::read_ends::{ReadEnd, Shape, fault_here, under};
+use crate::read_ends::{JsonWhy, ReadEnd, fault_here, under};
 use crate::read_parts::{has_members, items, member};
 use crate::read_texts::read_name;
 use carrier_io::Units;
@@ -38,7 +38,7 @@ fn read_path(alloc: Global, value: &Value) -> Result<Vec<Units>, ReadEnd>
 {
     let names = read_names(alloc, value)?;
     if names.is_empty() {
-        return Err(fault_here(alloc, Shape::Form));
+        return Err(fault_here(alloc, JsonWhy::Form));
     }
     Ok(names)
 }
@@ -72,7 +72,7 @@ fn read_entry(alloc: Global, value: &Value) -> Result<Entry, ReadEnd>
     if has_members(value, &["data", "path"]) {
         return read_stream(alloc, value);
     }
-    Err(fault_here(alloc, Shape::Form))
+    Err(fault_here(alloc, JsonWhy::Form))
 }
 
 /// An entry behind others.
@@ -81,7 +81,7 @@ fn read_next(alloc: Global, value: &Value, before: &[Entry]) -> Result<Entry, Re
 {
     let entry = read_entry(alloc, value)?;
     if !comes_next(before, &entry) {
-        return Err(fault_here(alloc, Shape::Order));
+        return Err(fault_here(alloc, JsonWhy::Order));
     }
     Ok(entry)
 }

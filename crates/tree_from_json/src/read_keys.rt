@@ -7,7 +7,7 @@ ghost use Rattle.json_values.specs.View.{view};
 ghost use Rattle.tree_from_json.specs.Ends.{Reads};
 
 use crate::read_digits::{read_guid, read_id};
-use crate::read_ends::{ReadEnd, Shape, fault_here, under};
+use crate::read_ends::{JsonWhy, ReadEnd, fault_here, under};
 use crate::read_parts::{has_members, member, number_up_to};
 use crate::read_texts::read_name;
 use json::Value;
@@ -56,7 +56,7 @@ fn read_named(alloc: Global, value: &Value) -> Result<Name, ReadEnd>
     if has_members(value, &["set", "text"]) {
         return read_texted(alloc, value);
     }
-    Err(fault_here(alloc, Shape::Form))
+    Err(fault_here(alloc, JsonWhy::Form))
 }
 
 /// A key: an id as a string, or a name as an object.

@@ -6,7 +6,7 @@ ghost use Rattle.json_values.specs.View.{view};
 ghost use Rattle.tree_from_json.specs.Ends.{Reads};
 ghost use Rattle.tree_from_json.specs.KindRows.{kind_row};
 
-use crate::read_ends::{ReadEnd, Shape, fault_here};
+use crate::read_ends::{JsonWhy, ReadEnd, fault_here};
 use crate::read_parts::string;
 use json::Value;
 use prop_values::Kind;
@@ -58,7 +58,7 @@ fn kind_among(alloc: Global, kinds: &[Kind], name: &str) -> Result<Kind, ReadEnd
             return Ok(*kind);
         }
     }
-    Err(fault_here(alloc, Shape::Kind))
+    Err(fault_here(alloc, JsonWhy::Kind))
 }
 
 /// A kind by its name.

@@ -9,7 +9,7 @@ ghost use Rattle.json_values.specs.View.{view};
 ghost use Rattle.tree_from_json.specs.Ends.{Reads};
 
 use crate::read_digits::{read_guid, read_hex};
-use crate::read_ends::{ReadEnd, Shape, fault_here, under};
+use crate::read_ends::{JsonWhy, ReadEnd, fault_here, under};
 use crate::read_parts::{items, number_up_to};
 use crate::read_texts::read_text;
 use carrier_io::Numbers;
@@ -46,7 +46,7 @@ pub(crate) fn read_bytes(alloc: Global, kind: Kind, value: &Value) -> Result<Vec
 {
     let bytes = read_either(alloc, kind, value)?;
     if bytes.len() >= bytes_limit(kind) {
-        return Err(fault_here(alloc, Shape::Range));
+        return Err(fault_here(alloc, JsonWhy::Range));
     }
     Ok(bytes)
 }
@@ -61,7 +61,7 @@ pub(crate) fn read_numbers(alloc: Global, value: &Value, most: u64) -> Result<Nu
         list.push(under(number_up_to(alloc, item, most), step)?)?;
     }
     if list.len() >= LIST_LIMIT {
-        return Err(fault_here(alloc, Shape::Range));
+        return Err(fault_here(alloc, JsonWhy::Range));
     }
     Ok(list)
 }
@@ -76,7 +76,7 @@ pub(crate) fn read_guids(alloc: Global, value: &Value) -> Result<Guids, ReadEnd>
         list.push(under(read_guid(alloc, item), step)?)?;
     }
     if list.len() >= LIST_LIMIT {
-        return Err(fault_here(alloc, Shape::Range));
+        return Err(fault_here(alloc, JsonWhy::Range));
     }
     Ok(list)
 }
@@ -95,7 +95,7 @@ pub(crate) fn read_parts(
         list.push(under(read_bytes(alloc, kind, item), step)?)?;
     }
     if list.len() >= LIST_LIMIT {
-        return Err(fault_here(alloc, Shape::Range));
+        return Err(fault_here(alloc, JsonWhy::Range));
     }
     Ok(list)
 }

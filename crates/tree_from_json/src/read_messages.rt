@@ -6,7 +6,7 @@ ghost use Rattle.json_model.specs.Properties.{read_props as props_meant};
 ghost use Rattle.msg_tree.specs.Meaning.{tree_of, list_of, attached_of};
 ghost use Rattle.tree_from_json.specs.Ends.{Reads};
 
-use crate::read_ends::{ReadEnd, Shape, fault_here, under};
+use crate::read_ends::{JsonWhy, ReadEnd, fault_here, under};
 use crate::read_parts::{has_members, items, member};
 use crate::read_props::read_props;
 use crate::read_stores::read_store;
@@ -78,7 +78,7 @@ fn read_attachment(
     if has_members(value, &["properties", "store"]) {
         return read_storing(alloc, value);
     }
-    Err(fault_here(alloc, Shape::Form))
+    Err(fault_here(alloc, JsonWhy::Form))
 }
 
 #[cycle(reading)]
@@ -108,10 +108,10 @@ pub(crate) fn read_message(
     ensures { Reads (tree_of (λ b. b.items)) (plain.read_within levels (view value.now)) result }
 {
     if !has_members(value, &["attachments", "properties", "recipients"]) {
-        return Err(fault_here(alloc, Shape::Form));
+        return Err(fault_here(alloc, JsonWhy::Form));
     }
     if levels == 0 {
-        return Err(fault_here(alloc, Shape::Deep));
+        return Err(fault_here(alloc, JsonWhy::Deep));
     }
     let attachments = member(alloc, value, "attachments")?;
     let attachments = under(read_attachments(alloc, attachments, levels - 1), 0)?;

@@ -7,7 +7,7 @@ ghost use Rattle.json_values.specs.Keys.{are_apart};
 ghost use Rattle.json_values.specs.View.{view, items_view};
 ghost use Rattle.tree_from_json.specs.Ends.{Reads};
 
-use crate::read_ends::{ReadEnd, Shape, fault_here};
+use crate::read_ends::{JsonWhy, ReadEnd, fault_here};
 use json::Value;
 use json_values::{as_items, as_str, as_u64, get, has_only, is_number};
 use std::alloc::Global;
@@ -42,7 +42,7 @@ pub(crate) fn member<'v, 'a>(
 {
     match get(value, name) {
         Some(member) => Ok(member),
-        None => Err(fault_here(alloc, Shape::Form)),
+        None => Err(fault_here(alloc, JsonWhy::Form)),
     }
 }
 
@@ -55,7 +55,7 @@ pub(crate) fn items<'v, 'a>(
 {
     match as_items(value) {
         Some(items) => Ok(items),
-        None => Err(fault_here(alloc, Shape::Form)),
+        None => Err(fault_here(alloc, JsonWhy::Form)),
     }
 }
 
@@ -65,7 +65,7 @@ pub(crate) fn string<'a>(alloc: Global, value: &Value<'a>) -> Result<&'a str, Re
 {
     match as_str(value) {
         Some(text) => Ok(text),
-        None => Err(fault_here(alloc, Shape::Form)),
+        None => Err(fault_here(alloc, JsonWhy::Form)),
     }
 }
 
@@ -74,10 +74,10 @@ pub(crate) fn number_up_to(alloc: Global, value: &Value, most: u64) -> Result<u6
     ensures { Reads (λ n. n) (number_below (most + 1) (view value.now)) result }
 {
     if !is_number(value) {
-        return Err(fault_here(alloc, Shape::Form));
+        return Err(fault_here(alloc, JsonWhy::Form));
     }
     match as_u64(value) {
         Some(number) if number <= most => Ok(number),
-        _ => Err(fault_here(alloc, Shape::Range)),
+        _ => Err(fault_here(alloc, JsonWhy::Range)),
     }
 }

@@ -6,7 +6,7 @@ ghost use Rattle.json_model.specs.Properties.{comes_after as comes_plain, read_n
 ghost use Rattle.json_values.specs.View.{view};
 ghost use Rattle.tree_from_json.specs.Ends.{Reads};
 
-use crate::read_ends::{ReadEnd, Shape, fault_here, under};
+use crate::read_ends::{JsonWhy, ReadEnd, fault_here, under};
 use crate::read_keys::read_key;
 use crate::read_kinds::read_kind;
 use crate::read_parts::{has_members, items, member};
@@ -21,7 +21,7 @@ fn read_prop(alloc: Global, value: &Value) -> Result<Prop<Vec<u8>>, ReadEnd>
     ensures { Reads (λ prop. prop) (plain_prop (view value.now)) result }
 {
     if !has_members(value, &["key", "kind", "value"]) {
-        return Err(fault_here(alloc, Shape::Form));
+        return Err(fault_here(alloc, JsonWhy::Form));
     }
     let kind = under(read_kind(alloc, member(alloc, value, "kind")?), 1)?;
     let key = under(read_key(alloc, member(alloc, value, "key")?), 0)?;
@@ -50,7 +50,7 @@ fn read_next_prop(
 {
     let prop = read_prop(alloc, value)?;
     if !comes_after(before, &prop) {
-        return Err(fault_here(alloc, Shape::Order));
+        return Err(fault_here(alloc, JsonWhy::Order));
     }
     Ok(prop)
 }

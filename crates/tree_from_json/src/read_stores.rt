@@ -11,7 +11,7 @@ ghost use Rattle.tree_from_json.specs.Entries.{entry_of, members_at, member_of, 
 
 use crate::entries::Entry;
 use crate::read_digits::read_guid;
-use crate::read_ends::{ReadEnd, Shape, fault_here, under};
+use crate::read_ends::{JsonWhy, ReadEnd, fault_here, under};
 use crate::read_entries::read_entries;
 use crate::read_parts::{has_members, member};
 use carrier_io::{NoMemory, Units};
@@ -119,14 +119,14 @@ pub(crate) fn read_store(alloc: Global, value: &Value) -> Result<Store<Vec<u8>>,
     ensures { Reads (store_of (λ b. b.items)) (plain.read_store (view value.now)) result }
 {
     if !has_members(value, &["class", "members"]) {
-        return Err(fault_here(alloc, Shape::Form));
+        return Err(fault_here(alloc, JsonWhy::Form));
     }
     let class = member(alloc, value, "class")?;
     let class = under(read_guid(alloc, class), 0)?;
     let list = member(alloc, value, "members")?;
     let entries = under(read_entries(alloc, list), 1)?;
     if !are_fit(&entries) {
-        return Err(fault_here(alloc, Shape::Deep));
+        return Err(fault_here(alloc, JsonWhy::Deep));
     }
     Ok(built(alloc, class.0, entries)?)
 }

@@ -6,7 +6,7 @@ ghost use Rattle.json_values.specs.View.{view};
 ghost use Rattle.tree_from_json.specs.Ends.{Reads};
 
 use crate::read_digits::read_groups;
-use crate::read_ends::{ReadEnd, Shape, fault_here, under};
+use crate::read_ends::{JsonWhy, ReadEnd, fault_here, under};
 use crate::read_parts::{has_members, member};
 use carrier_io::{NoMemory, Units};
 use json::Value;
@@ -19,7 +19,7 @@ fn read_units(alloc: Global, value: &Value) -> Result<Vec<u8>, ReadEnd>
     ensures { Reads (λ v. v.items) (plain_units (view value.now)) result }
 {
     if !has_members(value, &["units"]) {
-        return Err(fault_here(alloc, Shape::Form));
+        return Err(fault_here(alloc, JsonWhy::Form));
     }
     let units = member(alloc, value, "units")?;
     under(read_groups(alloc, units, 4), 0)
@@ -52,7 +52,7 @@ pub(crate) fn read_name(alloc: Global, value: &Value, most: usize) -> Result<Uni
 {
     let bytes = read_text(alloc, value)?;
     if bytes.len() > most.saturating_mul(2) {
-        return Err(fault_here(alloc, Shape::Range));
+        return Err(fault_here(alloc, JsonWhy::Range));
     }
     Ok(units_in(alloc, &bytes)?)
 }

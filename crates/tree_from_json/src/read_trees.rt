@@ -4,7 +4,7 @@ ghost use Rattle.json_model.specs.JsonMeanings.{TextMeansTree};
 ghost use Rattle.msg_tree.specs.Whole.{plain_of};
 ghost use Rattle.tree_from_json.specs.Told.{IsFirstEnd};
 
-use crate::read_ends::{JsonEnd, JsonFault, Shape, told};
+use crate::read_ends::{JsonEnd, JsonFault, JsonWhy, told};
 use crate::read_messages::read_message;
 use carrier_io::Numbers;
 use json::Scratch;
@@ -27,7 +27,7 @@ pub fn tree_of(alloc: Global, bytes: &[u8]) -> Result<Tree<Vec<u8>>, JsonEnd>
             Err(end) => Err(told(alloc, end)),
         },
         Err(TextEnd::NotJson) => Err(JsonEnd::Fault(JsonFault {
-            why: Shape::NotJson,
+            why: JsonWhy::NotJson,
             path: Numbers::new(alloc),
         })),
         Err(TextEnd::NoMemory) => Err(JsonEnd::NoMemory),

@@ -1,7 +1,7 @@
 use msg_tree::{depth, same};
 use std::alloc::{AllocError, Global};
 use std::test::*;
-use tree_from_json::Shape::{self, Deep, Digits, Form, Kind, NotJson, Order, Range};
+use tree_from_json::JsonWhy::{self, Deep, Digits, Form, Kind, NotJson, Order, Range};
 use tree_from_json::{JsonEnd, JsonFault, tree_of};
 use tree_json::json_of;
 
@@ -69,7 +69,7 @@ fn a_level_too_many(rt: HostRuntime) -> Result<(), Fail> {
 }
 
 /// A text, and why and where it has its first fault.
-type Row = (&'static str, Shape, &'static [u64]);
+type Row = (&'static str, JsonWhy, &'static [u64]);
 
 /// Whether a fault is that of a row.
 fn is_at(fault: &JsonFault, row: &Row) -> bool {
