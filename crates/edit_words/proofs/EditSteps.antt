@@ -8,6 +8,8 @@ use Rattle.edit_model.specs.EditWords.{edit_of, words_behind, edits_behind, are_
 use Rattle.edit_model.proofs.Kept.{all_drop}
 use Rattle.edit_model.proofs.WordsFit.{all_front, short_are}
 use Rattle.edit_words.specs.Reading.{IsShort}
+use Rattle.edit_words.specs.Verbs.{IsNoVerb}
+use Rattle.edit_words.proofs.VerbWords.{no_edit}
 
 pub own_words : {A : Type 0} (f : A → List ℕ) (words : List A) (at m count : ℕ) → m ≡ min count (length (take (length words - (at + 1)) (drop (at + 1) words))) → map f (take m (take (length words - (at + 1)) (drop (at + 1) words))) ≡ take count (drop (at + 1) (map f words))
 own_words f words at m count h =
@@ -45,3 +47,7 @@ edits_next es T at count verb own e here many is made =
     let one : edit_of verb (take (words_behind verb) rest) ≡ Some e = ap (λ n. edit_of verb (take n rest)) (sym many) ∙ (ap (edit_of verb) (sym is) ∙ sym made) in
     let skipped : drop (words_behind verb) rest ≡ drop (at + 1 + length own) T = ap (λ n. drop n rest) (sym many) ∙ (drop_taken count rest ∙ (ap (λ l. drop (length l) rest) (sym is) ∙ drop-drop (length own) (at + 1) T)) in
     ap (edits_behind es 0) here ∙ (rw one refl ∙ (skip_is (es ++ e ∷ []) (words_behind verb) rest ∙ ap (edits_behind (es ++ e ∷ []) 0) skipped))
+
+-- a word that is no verb begins no edit
+pub edits_unknown : (es : List Edit) (T : List (List ℕ)) (at : ℕ) (verb : List ℕ) → drop at T ≡ verb ∷ drop (at + 1) T → IsNoVerb verb → edits_behind es 0 (drop at T) ≡ None
+edits_unknown es T at verb here h = edits_stuck es T at (words_behind verb) verb (take (words_behind verb) (drop (at + 1) T)) here refl refl (sym (no_edit verb (take (words_behind verb) (drop (at + 1) T)) h))

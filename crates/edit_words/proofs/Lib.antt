@@ -3,3 +3,4 @@ mod KeyWords
 mod EditSteps
 mod Numerals
 mod StepWords
+mod VerbWords

@@ -1,3 +1,4 @@
 pub mod Meaning
 pub mod Parts
 pub mod Reading
+pub mod Verbs

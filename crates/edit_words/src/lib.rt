@@ -8,6 +8,7 @@ mod keys;
 mod places;
 mod scripts;
 mod values;
+mod verbs;
 
 pub use edit_list::Edits;
 pub use edits::{Edit, Part, Place, Spot};

@@ -1,11 +1,12 @@
 //! The words that are edits.
-ghost use Rattle.std.specs.Prelude.{◌≡◌, ◌≤◌, IfOk, length};
+ghost use Rattle.std.specs.Prelude.{◌≡◌, ◌≤◌, IfOk, codes, length};
 ghost use Rattle.std.specs.List.{AllByRecursion};
 ghost use Rattle.std.specs.Option.{option_map};
 ghost use Rattle.edit_words.specs.Reading.{IsShort};
 ghost use Rattle.edit_model.specs.EditWords as plain;
 ghost use Rattle.edit_model.specs.EditWords.{MOST_WORD_BYTES, set_of, remove_of, drop_of};
 ghost use Rattle.edit_words.specs.Meaning.{edit_of, texts};
+ghost use Rattle.edit_words.specs.Verbs.{word_of, recipient_dropped, attachment_dropped};
 
 use crate::decimals::read_place_number;
 use crate::edit_list::Edits;
@@ -13,7 +14,8 @@ use crate::edits::Edit;
 use crate::keys::{read_key, read_kind};
 use crate::places::{read_message, read_place};
 use crate::values::read_value;
-use carrier_io::NoMemory;
+use crate::verbs::{Verb, verb_of};
+use carrier_io::{NoMemory, Numbers};
 use prop_values::Prop;
 use std::alloc::Global;
 
@@ -60,83 +62,58 @@ fn read_remove(alloc: Global, place: &str, key: &str, kind: &str) -> Result<Opti
     Ok(Some(Edit::RemoveProp { place, key, kind }))
 }
 
-/// The edit that drops a recipient or an attachment.
-fn read_drop(
+/// The message and the number of a recipient or an attachment that is dropped.
+fn read_dropped(
     alloc: Global,
-    verb: &str,
     message: &str,
     number: &str,
-) -> Result<Option<Edit>, NoMemory>
-    ensures { IfOk result (λ r. option_map edit_of r ≡ drop_of verb.now message.now number.now) }
+) -> Result<Option<(Numbers, u64)>, NoMemory>
+    ensures recipient { IfOk result (λ r. option_map recipient_dropped r ≡ drop_of (codes "drop-recipient") message.now number.now) }
+    ensures attachment { IfOk result (λ r. option_map attachment_dropped r ≡ drop_of (codes "drop-attachment") message.now number.now) }
 {
     let Some(path) = read_message(alloc, message)? else {
         return Ok(None);
     };
-    let Some(number) = read_place_number(number) else {
-        return Ok(None);
-    };
-    if verb == "drop-recipient" {
-        return Ok(Some(Edit::DropRecipient { path, number }));
+    match read_place_number(number) {
+        Some(number) => Ok(Some((path, number))),
+        None => Ok(None),
     }
-    if verb == "drop-attachment" {
-        return Ok(Some(Edit::DropAttachment { path, number }));
-    }
-    Ok(None)
 }
 
 /// The edit of its first word and the others.
-fn read_edit(alloc: Global, verb: &str, words: &[String]) -> Result<Option<Edit>, NoMemory>
+fn read_edit(alloc: Global, verb: Verb, words: &[String]) -> Result<Option<Edit>, NoMemory>
     requires { AllByRecursion IsShort (texts words.now) }
-    ensures { IfOk result (λ r. option_map edit_of r ≡ plain.edit_of verb.now (texts words.now)) }
+    ensures { IfOk result (λ r. option_map edit_of r ≡ plain.edit_of (word_of verb) (texts words.now)) }
 {
-    match words {
-        [message] => {
-            if verb != "add-recipient" {
-                return Ok(None);
-            }
-            match read_message(alloc, message.as_str())? {
-                Some(path) => Ok(Some(Edit::AddRecipient { path })),
+    match (verb, words) {
+        (Verb::Set, [place, key, kind, value]) => read_set(
+            alloc,
+            place.as_str(),
+            key.as_str(),
+            kind.as_str(),
+            value.as_str(),
+        ),
+        (Verb::Remove, [place, key, kind]) => {
+            read_remove(alloc, place.as_str(), key.as_str(), kind.as_str())
+        }
+        (Verb::AddRecipient, [message]) => match read_message(alloc, message.as_str())? {
+            Some(path) => Ok(Some(Edit::AddRecipient { path })),
+            None => Ok(None),
+        },
+        (Verb::DropRecipient, [message, number]) => {
+            match read_dropped(alloc, message.as_str(), number.as_str())? {
+                Some((path, number)) => Ok(Some(Edit::DropRecipient { path, number })),
                 None => Ok(None),
             }
         }
-        [message, number] => read_drop(alloc, verb, message.as_str(), number.as_str()),
-        [place, key, kind] => {
-            if verb == "remove" {
-                return read_remove(alloc, place.as_str(), key.as_str(), kind.as_str());
+        (Verb::DropAttachment, [message, number]) => {
+            match read_dropped(alloc, message.as_str(), number.as_str())? {
+                Some((path, number)) => Ok(Some(Edit::DropAttachment { path, number })),
+                None => Ok(None),
             }
-            Ok(None)
-        }
-        [place, key, kind, value] => {
-            if verb == "set" {
-                return read_set(
-                    alloc,
-                    place.as_str(),
-                    key.as_str(),
-                    kind.as_str(),
-                    value.as_str(),
-                );
-            }
-            Ok(None)
         }
         _ => Ok(None),
     }
-}
-
-/// How many words stand behind the first word of an edit.
-fn words_behind(verb: &str) -> usize
-    ensures value { result ≡ plain.words_behind verb.now }
-    ensures bound { result ≤ 4 }
-{
-    if verb == "set" {
-        return 4;
-    }
-    if verb == "remove" {
-        return 3;
-    }
-    if verb == "add-recipient" {
-        return 1;
-    }
-    2
 }
 
 /// Whether no word has more than 1,048,576 bytes.
@@ -161,10 +138,11 @@ pub fn read_edits(alloc: Global, words: &[String]) -> Result<Option<Edits>, NoMe
     let mut edits = Edits::new(alloc);
     let mut at = 0;
     while at < words.len() {
-        let verb = words[at].as_str();
+        let Some(verb) = verb_of(words[at].as_str()) else {
+            return Ok(None);
+        };
         let others = &words[at + 1..];
-        let count = words_behind(verb);
-        let own = &others[..count.min(others.len())];
+        let own = &others[..verb.words_behind().min(others.len())];
         match read_edit(alloc, verb, own)? {
             Some(edit) => edits.push(edit)?,
             None => return Ok(None),
