@@ -8,10 +8,10 @@ ghost use Rattle.tree_edit.specs.Changes.{IsCauseOf, in_turn, on_part, on_props}
 ghost use Rattle.tree_edit.specs.declared.editing.OnceEnd.TheVariants as ends;
 ghost use Rattle.tree_edit.specs.declared.ends.EditWhy.TheVariants as whys;
 
-use crate::attachment_rows::edit_attachments;
+use crate::attachment_chunks::edit_attachments;
 use crate::ends::EditWhy;
 use crate::lists::edit_props;
-use crate::recipient_rows::edit_recipients;
+use crate::recipient_chunks::edit_recipients;
 use carrier_io::{NoMemory, Numbers};
 use edit_words::{Edit, Part, Spot};
 use msg_tree::{Attachment, Attachments, Body, Message, Recipients};

@@ -1,13 +1,13 @@
 //! The trees that edits make.
 #![tactic(auto)]
 
-mod attachment_rows;
+mod attachment_chunks;
+mod chunked_list;
 mod editing;
 mod ends;
 mod lists;
 mod prop_map;
-mod recipient_rows;
-mod rows;
+mod recipient_chunks;
 mod runs;
 mod whole;
 
