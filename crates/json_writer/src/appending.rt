@@ -1,5 +1,5 @@
 //! Bytes that are appended and counted.
-ghost use Rattle.std.specs.Prelude.{◌≡◌, nat_lt};
+ghost use Rattle.std.specs.Prelude.{◌≡◌};
 ghost use Rattle.serde_json.specs.Written.{comma_if};
 ghost use Rattle.json_writer.specs.Counted.{Counts};
 
@@ -16,9 +16,9 @@ pub fn append<W: Sink>(sink: &mut W, count: &mut u64, bytes: &[u8]) -> Result<()
     Ok(())
 }
 
-/// What stands before the value at a place of an array, counted from 0. [RFC 8259, section 5]
-pub fn separator(k: usize) -> &'static [u8]
-    ensures { result.now ≡ comma_if (nat_lt 0 k) }
+/// What stands before a value of an array: a comma, where it is a later one than the first. [RFC 8259, section 5]
+pub fn separator(later: bool) -> &'static [u8]
+    ensures { result.now ≡ comma_if later }
 {
-    if k == 0 { b"" } else { b"," }
+    if later { b"," } else { b"" }
 }

@@ -1,20 +1,13 @@
 //! Characters in JSON strings.
 ghost use Rattle.std.specs.Prelude.{◌≡◌, ◌<◌, IfSome, unwrap_or};
-ghost use Rattle.std.specs.Char.{digit_char, encode_utf8};
+ghost use Rattle.std.specs.Char.{encode_utf8};
 ghost use Rattle.json.specs.Print.{escape_byte, escape_letter, escape, quoted};
 ghost use Rattle.json_writer.specs.Counted.{Counts};
 ghost use Rattle.json_writer.specs.Units.{character_text};
 
 use crate::appending::append;
 use carrier_io::{Failed, Sink};
-
-/// A digit.
-fn digit(n: u8) -> u8
-    requires { n < 16 }
-    ensures { result ≡ digit_char n }
-{
-    if n < 10 { b'0' + n } else { b'a' + (n - 10) }
-}
+use prop_names::lower_digits2;
 
 /// The letter of a byte that has a short escape. [RFC 8259, section 7]
 fn short_escape(byte: u8) -> Option<u8>
@@ -39,8 +32,8 @@ fn append_control<W: Sink>(sink: &mut W, count: &mut u64, byte: u8) -> Result<()
     requires long { escape_letter byte ≡ 0 }
     ensures { Counts (W.held sink.old) (W.held sink.new) (W.faults sink.old) (W.faults sink.new) count.old count.new result (escape_byte byte) }
 {
-    let escape = [b'\\', b'u', b'0', b'0', digit(byte / 16), digit(byte % 16)];
-    append(sink, count, &escape)
+    let [high, low] = lower_digits2(byte);
+    append(sink, count, &[b'\\', b'u', b'0', b'0', high, low])
 }
 
 /// Appends what stands for a byte of a string.

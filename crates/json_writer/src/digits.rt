@@ -1,5 +1,5 @@
 //! Bytes as digits.
-ghost use Rattle.std.specs.Prelude.{◌≡◌, ◌≤◌, ◌+◌, ◌*◌, ◌++◌, ◌∷◌, [], length, take};
+ghost use Rattle.std.specs.Prelude.{◌≡◌, ◌≤◌, ◌<◌, ◌+◌, ◌*◌, ◌++◌, ◌∷◌, [], length, take};
 ghost use Rattle.json_model.specs.Digits.{hex};
 ghost use Rattle.json_model.specs.Properties.{hex_json};
 ghost use Rattle.serde_json.specs.Written.{compact_text};
@@ -12,10 +12,13 @@ use prop_names::lower_digits2;
 /// How many bytes become digits at a time.
 const CHUNK: usize = 256;
 
+/// How many digits these are.
+const DIGITS: usize = 2 * CHUNK;
+
 /// Puts two digits for a byte at its place.
 #[inline(always)]
-fn put_digits(digits: &mut [u8; 512], k: usize, byte: u8)
-    requires { k ≤ 255 }
+fn put_digits(digits: &mut [u8; DIGITS], k: usize, byte: u8)
+    requires { k < CHUNK }
     ensures { take (2 * k + 2) digits.new ≡ take (2 * k) digits.old ++ hex (byte ∷ []) }
 {
     digits[2 * k..2 * k + 2].copy_from_slice(&lower_digits2(byte));
@@ -23,10 +26,10 @@ fn put_digits(digits: &mut [u8; 512], k: usize, byte: u8)
 
 /// Appends the digits of a few bytes.
 fn append_few<W: Sink>(sink: &mut W, count: &mut u64, bytes: &[u8]) -> Result<(), Failed>
-    requires { length bytes.now ≤ 256 }
+    requires { length bytes.now ≤ CHUNK }
     ensures { Counts (W.held sink.old) (W.held sink.new) (W.faults sink.old) (W.faults sink.new) count.old count.new result (hex bytes.now) }
 {
-    let mut digits = [0; 512];
+    let mut digits = [0; DIGITS];
     for k in 0..bytes.len() {
         put_digits(&mut digits, k, bytes[k]);
     }

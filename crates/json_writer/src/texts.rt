@@ -156,7 +156,7 @@ fn is_well_formed<T: Utf16Bytes>(text: &T) -> bool
 }
 
 /// Appends the characters in quotes.
-fn append_string<T: Utf16Bytes, W: Sink>(
+fn append_quoted<T: Utf16Bytes, W: Sink>(
     sink: &mut W,
     count: &mut u64,
     text: &T,
@@ -190,7 +190,7 @@ fn append_utf16<T: Utf16Bytes, W: Sink>(
     ensures { Counts (W.held sink.old) (W.held sink.new) (W.faults sink.old) (W.faults sink.new) count.old count.new result (compact_text (text_json (T.bytes text.now))) }
 {
     if is_well_formed(text) {
-        append_string(sink, count, text)
+        append_quoted(sink, count, text)
     } else {
         append_object(sink, count, text)
     }

@@ -3,12 +3,12 @@ ghost use Rattle.std.specs.Prelude.{◌≡◌, false, nat_lt, map, length};
 ghost use Rattle.json_model.specs.StoreForms.{path_json};
 ghost use Rattle.json_model.specs.Texts.{name_json};
 ghost use Rattle.json_writer.specs.Counted.{Counts};
-ghost use Rattle.serde_json.specs.Written.{compact_text, comma_if};
+ghost use Rattle.serde_json.specs.Written.{compact_text};
 ghost use Rattle.tree_json.specs.Lists.{behind};
 ghost use Rattle.tree_json.specs.Paths.{names_in};
 
 use carrier_io::{Failed, Sink};
-use json_writer::{append, append_name};
+use json_writer::{append, append_name, separator};
 
 /// The names from a store down to a member.
 #[derive(Drop)]
@@ -19,13 +19,13 @@ pub(crate) enum Path<'p> {
     Under(&'p Path<'p>, &'p [u16]),
 }
 
-/// What stands before a name, behind the path above it.
-fn separator_behind(above: &Path) -> &'static [u8]
-    ensures { result.now ≡ comma_if (nat_lt 0 (length (names_in above.now))) }
+/// Whether a path has names.
+fn has_names(path: &Path) -> bool
+    ensures { result ≡ nat_lt 0 (length (names_in path.now)) }
 {
-    match above {
-        Path::Top => b"",
-        Path::Under(..) => b",",
+    match path {
+        Path::Top => false,
+        Path::Under(..) => true,
     }
 }
 
@@ -37,7 +37,7 @@ fn write_names<W: Sink>(sink: &mut W, count: &mut u64, path: &Path) -> Result<()
         Path::Top => append(sink, count, b""),
         Path::Under(above, name) => {
             write_names(sink, count, above)?;
-            append(sink, count, separator_behind(above))?;
+            append(sink, count, separator(has_names(above)))?;
             append_name(sink, count, name)
         }
     }

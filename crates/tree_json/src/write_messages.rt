@@ -26,7 +26,7 @@ fn write_recipients<B: Blob, W: Sink>(
 {
     append(sink, count, b"[")?;
     for k in 0..recipients.len() {
-        append(sink, count, separator(k))?;
+        append(sink, count, separator(k > 0))?;
         write_props(sink, count, recipients.get(k))?;
     }
     append(sink, count, b"]")
@@ -63,7 +63,7 @@ fn write_attachments<B: Blob, W: Sink>(
 {
     append(sink, count, b"[")?;
     for k in 0..list.len() {
-        append(sink, count, separator(k))?;
+        append(sink, count, separator(k > 0))?;
         write_attachment(sink, count, list.get(k))?;
     }
     append(sink, count, b"]")

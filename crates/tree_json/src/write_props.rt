@@ -103,7 +103,7 @@ fn write_numbers<W: Sink>(sink: &mut W, count: &mut u64, list: &Numbers) -> Resu
 {
     append(sink, count, b"[")?;
     for k in 0..list.len() {
-        append(sink, count, separator(k))?;
+        append(sink, count, separator(k > 0))?;
         append_number(sink, count, *list.get(k))?;
     }
     append(sink, count, b"]")
@@ -115,7 +115,7 @@ fn write_guids<W: Sink>(sink: &mut W, count: &mut u64, list: &Guids) -> Result<(
 {
     append(sink, count, b"[")?;
     for k in 0..list.len() {
-        append(sink, count, separator(k))?;
+        append(sink, count, separator(k > 0))?;
         write_guid(sink, count, list.get(k))?;
     }
     append(sink, count, b"]")
@@ -133,7 +133,7 @@ fn write_each<B: Blob, W: Sink>(
 {
     append(sink, count, b"[")?;
     for k in 0..list.len() {
-        append(sink, count, separator(k))?;
+        append(sink, count, separator(k > 0))?;
         write_bytes(sink, count, kind, list.get(k))?;
     }
     append(sink, count, b"]")
@@ -204,7 +204,7 @@ pub fn write_props<B: Blob, W: Sink>(
     look_into(props);
     append(sink, count, b"[")?;
     for k in 0..props.len() {
-        append(sink, count, separator(k))?;
+        append(sink, count, separator(k > 0))?;
         write_prop(sink, count, props.get(k))?;
     }
     append(sink, count, b"]")

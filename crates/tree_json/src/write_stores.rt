@@ -4,7 +4,7 @@ ghost use Rattle.json_model.specs.ByteTrees.{AreBytes, FilesHaveBytes};
 ghost use Rattle.json_model.specs.StoreForms.{storage_entry, stream_entry, entry_json, entries_below, store_json};
 ghost use Rattle.json_writer.specs.Counted.{Counts};
 ghost use Rattle.msg_tree.specs.StoreMeaning.{store_of, member_of};
-ghost use Rattle.serde_json.specs.Written.{compact_text, comma_if};
+ghost use Rattle.serde_json.specs.Written.{compact_text};
 ghost use Rattle.tree_json.specs.Listing.{member_entries};
 ghost use Rattle.tree_json.specs.Lists.{behind};
 ghost use Rattle.tree_json.specs.Paths.{names_in};
@@ -13,7 +13,7 @@ ghost use Rattle.tree_json.specs.Wholes.{MemberHasBytes, StoreHasBytes};
 use crate::paths::{Path, write_path};
 use crate::write_parts::{write_digits, write_guid};
 use carrier_io::{Blob, Failed, Sink};
-use json_writer::append;
+use json_writer::{append, separator};
 use msg_tree::{Member, Store};
 use prop_names::Guid;
 
@@ -49,13 +49,6 @@ fn write_storage<W: Sink>(
     append(sink, count, b",\"path\":")?;
     write_path(sink, count, path)?;
     append(sink, count, b"}")
-}
-
-/// A comma, where something stands before.
-fn comma_behind(later: bool) -> &'static [u8]
-    ensures { result.now ≡ comma_if later }
-{
-    if later { b"," } else { b"" }
 }
 
 /// Whether something stands before the member at a place.
@@ -96,7 +89,7 @@ fn write_member<'p, B: Blob, W: Sink>(
     ensures json { Counts (W.held sink.old) (W.held sink.new) (W.faults sink.old) (W.faults sink.new) count.old count.new result (behind later (map entry_json (member_entries (names_in path.now) (member_of B.bytes member.now)))) }
     ensures bytes { OnOk result (MemberHasBytes (member_of B.bytes member.now)) }
 {
-    append(sink, count, comma_behind(later))?;
+    append(sink, count, separator(later))?;
     match member {
         Member::Stream(bytes) => write_stream(sink, count, path, bytes),
         Member::Storage(inner) => {

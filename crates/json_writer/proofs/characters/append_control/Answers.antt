@@ -1,7 +1,6 @@
-use Rattle.std.proofs.Common.{arith}
 use Rattle.json_writer.proofs.Counted.{counts_as}
 use Rattle.json_writer.proofs.Escapes.{control_text}
 use Rattle.json_writer.proofs.characters.append_control.Goals as goal
 
 pub returns : goal.returns
-returns g c = counts_as _ (control_text c.args.byte c.digit.result c.digit-2.result (omega (arith, c.requires.small)) c.requires.long c.digit.ensures c.digit-2.ensures) c.append.ensures
+returns g c = counts_as _ (control_text c.args.byte c.lower_digits2.result c.requires.small c.requires.long c.lower_digits2.ensures) c.append.ensures

@@ -15,28 +15,28 @@ use Rattle.tree_json.proofs.write_stores.+listing.Goals as goal
 pub write_member-returns-in_err-append-clause-json : goal.write_member-returns-in_err-append-clause-json
 write_member-returns-in_err-append-clause-json g t c =
     let q = member_front c.args.later (names_in c.args.path.now) (member_of g.B.Blob.bytes c.args.member.now) in
-    counts_as _ (sym q.1) (failing q.0 c.from_residual.ensures.0 (rw c.comma_behind.ensures at c.in_err-append.ensures))
+    counts_as _ (sym q.1) (failing q.0 c.from_residual.ensures.0 (rw c.separator.ensures at c.in_err-append.ensures))
 
 pub write_member-returns-in-Stream-clause-json : goal.write_member-returns-in-Stream-clause-json
 write_member-returns-in-Stream-clause-json g t c =
     let path = names_in c.args.path.now in
     let known : member_of g.B.Blob.bytes c.args.member.now ≡ bytes_at (g.B.Blob.bytes c.in-Stream.bytes) = ap (member_of g.B.Blob.bytes) c.in-Stream.is ∙ stream_made g.B.Blob.bytes c.in-Stream.bytes in
     counts_as _ (stream_member c.args.later path (g.B.Blob.bytes c.in-Stream.bytes) ∙ ap (λ (m : Member). behind c.args.later (map entry_json (member_entries path m))) (sym known))
-    (andthen (rw c.comma_behind.ensures at c.in_ok-append.ensures) c.write_stream.ensures.json)
+    (andthen (rw c.separator.ensures at c.in_ok-append.ensures) c.write_stream.ensures.json)
 
 pub write_member-returns-in_err-write_storage-in-Storage-clause-json : goal.write_member-returns-in_err-write_storage-in-Storage-clause-json
 write_member-returns-in_err-write_storage-in-Storage-clause-json g t c =
     let path = names_in c.args.path.now in
     let known : member_of g.B.Blob.bytes c.args.member.now ≡ store_at (store_of g.B.Blob.bytes c.in-Storage.inner) = ap (member_of g.B.Blob.bytes) c.in-Storage.is ∙ storage_made g.B.Blob.bytes c.in-Storage.inner in
     counts_as _ (ap (λ (m : Member). behind c.args.later (map entry_json (member_entries path m))) (sym known))
-    (andthen (rw c.comma_behind.ensures at c.in_ok-append.ensures) (failing _ c.from_residual-in_err-write_storage-in-Storage.ensures.0 (rw c.class.ensures at c.in_err-write_storage-in-Storage.ensures.json)))
+    (andthen (rw c.separator.ensures at c.in_ok-append.ensures) (failing _ c.from_residual-in_err-write_storage-in-Storage.ensures.0 (rw c.class.ensures at c.in_err-write_storage-in-Storage.ensures.json)))
 
 pub write_member-returns-in_ok-write_storage-in-Storage-clause-json : goal.write_member-returns-in_ok-write_storage-in-Storage-clause-json
 write_member-returns-in_ok-write_storage-in-Storage-clause-json g t c =
     let path = names_in c.args.path.now in
     let known : member_of g.B.Blob.bytes c.args.member.now ≡ store_at (store_of g.B.Blob.bytes c.in-Storage.inner) = ap (member_of g.B.Blob.bytes) c.in-Storage.is ∙ storage_made g.B.Blob.bytes c.in-Storage.inner in
     counts_as _ (ap (λ (m : Member). behind c.args.later (map entry_json (member_entries path m))) (sym known))
-    (andthen (rw c.comma_behind.ensures at c.in_ok-append.ensures) (andthen (rw c.class.ensures at c.in_ok-write_storage-in-Storage.ensures.json) c.write_members.ensures.json))
+    (andthen (rw c.separator.ensures at c.in_ok-append.ensures) (andthen (rw c.class.ensures at c.in_ok-write_storage-in-Storage.ensures.json) c.write_members.ensures.json))
 
 pub write_members-write_member-requires : goal.write_members-write_member-requires
 write_members-write_member-requires g t c κs within =

@@ -3,7 +3,7 @@ use Rattle.std.specs.Prelude.{None}
 use Rattle.carrier_model.specs.Bytes.{units_of}
 use Rattle.json_writer.specs.Units.{units_text}
 use Rattle.json_writer.proofs.Counted.{andthen, failing}
-use Rattle.json_writer.proofs.texts.append_string.Goals as goal
+use Rattle.json_writer.proofs.texts.append_quoted.Goals as goal
 
 pub returns-in_err-append : goal.returns-in_err-append
 returns-in_err-append g c = failing (units_text None (units_of (g.T.Utf16Bytes.bytes c.args.text.now)) ++ 34 ∷ []) c.from_residual.ensures.0 c.in_err-append.ensures
