@@ -6,16 +6,25 @@ ghost use Rattle.prop_names.specs.Meaning.{key_of as key_meant};
 ghost use Rattle.prop_values.specs.Kinds.{kind_number};
 ghost use Rattle.edit_words.specs.Reading.{IsEditKind};
 
-use prop_names::{Key, Name, guid_of_digits, number_of_eight, number_of_four};
+use prop_names::{FIRST_NAMED, Key, Name, guid_of_digits, number_of_eight, number_of_four};
 use prop_values::Kind;
 
-/// Four upper-case digits of a number below 8000.
+/// How long an id is: four digits.
+const ID_LENGTH: usize = 4;
+
+/// The digits of a property set: two for each of its 16 bytes.
+const SET_DIGITS: usize = 32;
+
+/// How long a name by its number is: the digits of its set, a slash, and the eight digits of the number.
+const NAME_LENGTH: usize = SET_DIGITS + 1 + 8;
+
+/// Four upper-case digits of a number below those that stand for names.
 fn read_id(word: &[u8]) -> Option<Key>
     ensures { option_map key_meant result ≡ id_of word.now }
 {
     match number_of_four(word) {
         Some(number) => {
-            if number < 0x8000 {
+            if number < u32::from(FIRST_NAMED) {
                 Some(Key::Id(number as u16))
             } else {
                 None
@@ -27,16 +36,16 @@ fn read_id(word: &[u8]) -> Option<Key>
 
 /// The set's bytes, a slash, and eight upper-case digits of the number.
 fn read_name(word: &[u8]) -> Option<Key>
-    requires { length word.now ≡ 41 }
+    requires { length word.now ≡ NAME_LENGTH }
     ensures { option_map key_meant result ≡ name_of word.now }
 {
-    let Some(set) = guid_of_digits(&word[..32]) else {
+    let Some(set) = guid_of_digits(&word[..SET_DIGITS]) else {
         return None;
     };
-    let Some(number) = number_of_eight(&word[33..]) else {
+    let Some(number) = number_of_eight(&word[SET_DIGITS + 1..]) else {
         return None;
     };
-    if word[32] == b'/' {
+    if word[SET_DIGITS] == b'/' {
         Some(Key::Named(Name::Number { set, number }))
     } else {
         None
@@ -47,10 +56,10 @@ fn read_name(word: &[u8]) -> Option<Key>
 pub fn read_key(word: &[u8]) -> Option<Key>
     ensures { option_map key_meant result ≡ key_of word.now }
 {
-    if word.len() == 4 {
+    if word.len() == ID_LENGTH {
         return read_id(word);
     }
-    if word.len() == 41 {
+    if word.len() == NAME_LENGTH {
         return read_name(word);
     }
     None

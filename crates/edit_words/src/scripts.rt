@@ -19,6 +19,9 @@ use carrier_io::{NoMemory, Numbers};
 use prop_values::Prop;
 use std::alloc::Global;
 
+/// The most bytes of a word. The value that such a word says is within what any kind may have.
+const LONGEST_WORD: usize = 1_048_576;
+
 /// The edit that sets a property.
 fn read_set(
     alloc: Global,
@@ -116,12 +119,12 @@ fn read_edit(alloc: Global, verb: Verb, words: &[String]) -> Result<Option<Edit>
     }
 }
 
-/// Whether no word has more than 1,048,576 bytes.
+/// Whether no word is longer than a word may be.
 fn are_short(words: &[String]) -> bool
     ensures { result ≡ plain.are_short (texts words.now) }
 {
     for word in words {
-        if word.len() > 1_048_576 {
+        if word.len() > LONGEST_WORD {
             return false;
         }
     }

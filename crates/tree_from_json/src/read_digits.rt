@@ -7,7 +7,7 @@ ghost use Rattle.tree_from_json.specs.Ends.{Reads};
 use crate::read_ends::{JsonWhy, ReadEnd, fault_here};
 use crate::read_parts::string;
 use json::Value;
-use prop_names::{Guid, bytes_of_digits, guid_of_digits, number_of_four};
+use prop_names::{FIRST_NAMED, Guid, bytes_of_digits, guid_of_digits, number_of_four};
 use std::alloc::Global;
 
 /// The bytes of a string of digits, two a byte, in whole groups of so many digits.
@@ -48,7 +48,7 @@ pub(crate) fn read_id(alloc: Global, text: &str) -> Result<u16, ReadEnd>
     ensures { Reads (λ n. n) (plain.read_id text.now) result }
 {
     match number_of_four(text.as_bytes()) {
-        Some(number) if number < 0x8000 => Ok(number as u16),
+        Some(number) if number < u32::from(FIRST_NAMED) => Ok(number as u16),
         Some(_) => Err(fault_here(alloc, JsonWhy::Range)),
         None => Err(fault_here(alloc, JsonWhy::Digits)),
     }

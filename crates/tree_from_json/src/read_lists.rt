@@ -20,6 +20,12 @@ use std::alloc::Global;
 /// One above the most elements of a value.
 const LIST_LIMIT: usize = 0x1000_0000;
 
+/// One above the most bytes of a String8.
+const STRING8_LIMIT: usize = 0x1000_0000;
+
+/// One above the most bytes of any other value. A String8 of the most bytes is still within it as a String.
+const BYTES_LIMIT: usize = 0x4000_0000;
+
 /// A text, or digits, by the kind.
 fn read_either(alloc: Global, kind: Kind, value: &Value) -> Result<Vec<u8>, ReadEnd>
     ensures { Reads (λ v. v.items) (if kind_number kind == 0x001F then plain_text (view value.now) else plain_hex (view value.now)) result }
@@ -35,8 +41,8 @@ fn bytes_limit(kind: Kind) -> usize
     ensures { result ≡ plain_limit (kind_number kind) }
 {
     match kind {
-        Kind::String8 => 0x1000_0000,
-        _ => 0x4000_0000,
+        Kind::String8 => STRING8_LIMIT,
+        _ => BYTES_LIMIT,
     }
 }
 
