@@ -42,6 +42,7 @@ impl<'t, B: Blob> Plan<'t, B> {
     ghost use Rattle.cfb_writer.specs.Planned.{layout_of};
     ghost use Rattle.cfb_writer.specs.PlanEnds.{IsEndOf};
     ghost use Rattle.carrier_io.specs.Known.{Writes};
+    ghost use Rattle.carrier_io.specs.Summed.{Sums};
     ghost use Rattle.carrier_model.specs.Bytes.{sum16};
     ghost use Rattle.carrier_model.specs.Layout.{file_bytes};
     ghost use Rattle.cfb_writer.specs.Laid.{slots_in};
@@ -95,12 +96,20 @@ impl<'t, B: Blob> Plan<'t, B> {
         self.size
     }
 
+    /// Appends the file, and answers the sum of its bytes modulo 65,536. It takes no memory. Failed says that the sink
+    /// failed; then a front of the file may stand there. [MS-CFB 2.1, MS-OXTNEF 2.1.3]
+    pub fn append<W: Sink>(&self, sink: &mut W) -> Result<u16, Failed>
+        ensures { Sums (W.held sink.old) (W.held sink.new) (W.faults sink.old) (W.faults sink.new) result self.now }
+    {
+        append_file(sink, self.version, &self.numbers, &self.entries)
+    }
+
     /// Appends the file. It takes no memory. Failed says that the sink failed; then a front of the file may stand
     /// there. [MS-CFB 2.1]
     pub fn write<W: Sink>(&self, sink: &mut W) -> Result<(), Failed>
         ensures { Writes (W.held sink.old) (W.held sink.new) (W.faults sink.old) (W.faults sink.new) result self.now }
     {
-        match append_file(sink, self.version, &self.numbers, &self.entries) {
+        match self.append(sink) {
             Ok(_) => Ok(()),
             Err(failed) => Err(failed),
         }
@@ -111,7 +120,7 @@ impl<'t, B: Blob> Plan<'t, B> {
         ensures { result ≡ sum16 self.now }
     {
         let mut sink = SureSink::new();
-        match append_file(&mut sink, self.version, &self.numbers, &self.entries) {
+        match self.append(&mut sink) {
             Ok(sum) => sum,
             Err(_) => unreachable!(),
         }

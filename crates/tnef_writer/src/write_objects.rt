@@ -59,8 +59,7 @@ impl<B: Blob> Carried<'_, '_, B> {
 pub fn append_store<B: Blob, W: Sink>(sink: &mut W, plan: &Plan<'_, B>) -> Result<u16, Failed>
     ensures { Sums (W.held sink.old) (W.held sink.new) (W.faults sink.old) (W.faults sink.new) result plan.now }
 {
-    plan.write(sink)?;
-    Ok(plan.sum())
+    plan.append(sink)
 }
 
 /// Appends what stands before the value of an Object, whose size is given, and the interface's id: the tag, a count of
