@@ -1,5 +1,5 @@
 -- A message that a stream carries is a tree: no deeper than it may be, and its stores are stores.
-use Rattle.std.proofs.Common.{◌≡◌, ℕ, ◌≤◌, ◌<◌, ◌⊎◌, inl, inr, List, length, Err, sym, subst, arith}
+use Rattle.std.proofs.Common.{◌≡◌, ℕ, ◌≤◌, List, length, Err, sym, subst}
 use Rattle.carrier_io.specs.Reads.{MeansOnly, OnFault, Reads}
 use Rattle.carrier_io.specs.Reasons.{fault_of}
 use Rattle.carrier_io.specs.declared.reasons.Stop.{Stop}
@@ -27,10 +27,12 @@ mutual
   body_has_stores (embedded inner) h = has_stores inner h
   body_has_stores (stored store) h = h
 
--- so it is never refused as a tree
-pub not_refused : (bytes : List ℕ) (t : Message) (passed : List Passed) → AllBytes bytes → length bytes ≤ 268435456 → TnefCarrier bytes t passed → ((32 < depth t) ⊎ (HasStores t → ⊥)) → ⊥
-not_refused bytes t passed all short means (inl deep) = omega (arith, deep, (carrier_is_tree bytes t passed all short means).levels)
-not_refused bytes t passed all short means (inr none) = none (has_stores t (carrier_is_tree bytes t passed all short means).lists)
+-- so it keeps to what a tree keeps to
+pub is_shallow : (bytes : List ℕ) (t : Message) (passed : List Passed) → AllBytes bytes → length bytes ≤ 268435456 → TnefCarrier bytes t passed → depth t ≤ 32
+is_shallow bytes t passed all short means = (carrier_is_tree bytes t passed all short means).levels
+
+pub stores_are : (bytes : List ℕ) (t : Message) (passed : List Passed) → AllBytes bytes → length bytes ≤ 268435456 → TnefCarrier bytes t passed → HasStores t
+stores_are bytes t passed all short means = has_stores t (carrier_is_tree bytes t passed all short means).lists
 
 -- ---- both sides of the reader of a whole stream
 

@@ -7,7 +7,7 @@ use Rattle.carrier_model.specs.Grammar.{Form, Spans, Means, Whole, gives, and_th
 use Rattle.tnef_model.specs.LegacyAttributes.{MESSAGE_PROPS, RECIPIENTS, ATTACHMENT, is_message_id, is_attachment_id}
 use Rattle.tnef_model.specs.TnefLists.{PropList, prop_list, recipient_lists}
 use Rattle.tnef_model.specs.TnefMessage as plain
-use Rattle.carrier_model.specs.Meanings.{Held, Passed}
+use Rattle.carrier_model.specs.Meanings.{Held}
 use Rattle.tnef_model.specs.TnefMessage.{Part, part, content, inner_of, with_inner}
 use Rattle.carrier_model.specs.Trail.{Fault}
 use Rattle.carrier_model.proofs.Reading.{spans_seen, spans_nothing}

@@ -149,8 +149,6 @@ pub fn read_tnef<'a>(alloc: Global, bytes: &'a [u8]) -> Result<Accepted<Held<'a>
 {
     let mut passed = PassedList::new(alloc);
     let message = message_at(alloc, bytes, 0, GREATEST_LEVEL, &mut passed)?;
-    match Tree::new(message) {
-        Ok(tree) => Ok(Accepted { tree, passed }),
-        Err(_) => unreachable!(),
-    }
+    let tree = Tree::from_shallow(message);
+    Ok(Accepted { tree, passed })
 }
