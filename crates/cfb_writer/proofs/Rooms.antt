@@ -1,12 +1,17 @@
 -- How much room children need, one after the other.
-use Rattle.std.proofs.Common.{◌≡◌, ℕ, zero, suc, ◌+◌, ◌<◌, List, [], ◌∷◌, ◌++◌, length, get_or, take, map, sym, ap, subst, ◌∙◌, arith}
+use Rattle.std.proofs.Common.{◌≡◌, ℕ, zero, suc, ◌+◌, ◌<◌, ◌^◌, List, [], ◌∷◌, ◌++◌, length, get_or, take, map, sym, ap, subst, ◌∙◌, arith}
 use Rattle.std.specs.List.{AllByRecursion}
 use Rattle.std.proofs.lemmas.List.{take_more, get_or-map, length-map}
 use Rattle.carrier_model.specs.FileTrees.{FileTree, entries_in}
 use Rattle.carrier_model.specs.Totals.{capped}
 use Rattle.cfb_list.specs.Contents.{child_named, child_of}
 use Rattle.cfb_list.specs.Listed.{Child, stream, storage, built, IsChild}
+use Rattle.cfb_writer.specs.Laid.{bytes_of}
+use Rattle.cfb_writer.specs.Placed.{slot_of}
+use Rattle.cfb_writer.specs.Shares.{share_pieces}
 use Rattle.cfb_writer.specs.Totals.{totals_of}
+use Rattle.cfb_writer.specs.declared.streams.Share.TheVariants.{Short, Long}
+use Rattle.cfb_list.specs.declared.content.Content.{Content}
 use Rattle.cfb_list.specs.Trees.{mini_in, long_in}
 use Rattle.cfb_list.specs.declared.content.File.{File}
 use Rattle.cfb_list.specs.declared.content.Kind.{Kind}
@@ -63,3 +68,19 @@ pub taken_more : {B : Type 0} (of : B → List ℕ) (files : List (File B)) (k :
 taken_more of files k file lt at =
     take_more (map (child_of of) files) k (child_of of file) (omega (arith, lt, length-map files (child_of of)))
     ∙ ap (λ (c : Child). take k (map (child_of of) files) ++ c ∷ []) (get_or-map (child_of of) files k file (child_of of file) lt ∙ ap (child_of of) (sym at))
+
+-- what a stream needs, and a storage with what is in it
+pub stream_totals : {B : Type 0} (of : B → List ℕ) (z : ℕ) (tree : ℕ → FileTree) (name : List ℕ) (kind : Kind B) (content : Content B) (mini long : ℕ) → kind ≡ Stream content → mini < 2 ^ 64 → long < 2 ^ 64 → mini ≡ share_pieces Short 64 (bytes_of (slot_of (child_named of name kind) 0 0 0)) → long ≡ share_pieces Long z (bytes_of (slot_of (child_named of name kind) 0 0 0)) → ◌≡◌ {A = Totals} (record { entries = 1; mini = mini; long = long }) (totals_of z (built tree (child_named of name kind ∷ [])))
+stream_totals of z tree name kind content mini long is m l e f =
+    let e' = (rw is at e) in
+    let f' = (rw is at f) in
+    rw is (same_totals (record { entries = 1; mini = mini; long = long }) (totals_of z (built tree (child_named of name (Stream content) ∷ []))) (omega arith) (omega (arith, m, e')) (omega (arith, l, f')))
+
+pub storage_totals : {B : Type 0} (of : B → List ℕ) (z : ℕ) (tree : ℕ → FileTree) (name : List ℕ) (kind : Kind B) (class : List ℕ) (number mini long : ℕ) (inner new : Totals) → kind ≡ StorageKind class number → inner ≡ totals_of z (tree number) → mini ≡ share_pieces Short 64 (bytes_of (slot_of (child_named of name kind) 0 0 0)) → long ≡ share_pieces Long z (bytes_of (slot_of (child_named of name kind) 0 0 0)) → new.entries ≡ capped (1 + inner.entries) → new.mini ≡ capped (mini + inner.mini) → new.long ≡ capped (long + inner.long) → new ≡ totals_of z (built tree (child_named of name kind ∷ []))
+storage_totals of z tree name kind class number mini long inner new is known e f a b c =
+    let none : mini ≡ 0 = (rw is at e) in
+    let nothing : long ≡ 0 = (rw is at f) in
+    rw is (same_totals new (totals_of z (built tree (storage name class number ∷ [])))
+    (omega (arith, a, ap (λ (t : Totals). t.entries) known))
+    (omega (arith, b, none, ap (λ (t : Totals). t.mini) known))
+    (omega (arith, c, nothing, ap (λ (t : Totals). t.long) known)))

@@ -2,15 +2,16 @@
 ghost use Rattle.std.specs.Prelude.{◌≡◌, ◌<◌, ◌+◌, ◌∷◌, [], ℕ, List, length, vec_len, IfOk};
 ghost use Rattle.carrier_model.specs.FileTrees.{FileTree};
 ghost use Rattle.carrier_model.specs.Totals.{capped};
-ghost use Rattle.cfb_list.specs.Contents.{content_bytes, child_named};
+ghost use Rattle.cfb_list.specs.Contents.{child_named};
 ghost use Rattle.cfb_list.specs.Listed as listed;
 ghost use Rattle.cfb_writer.specs.Totals.{totals_of, AreKnown};
-ghost use Rattle.cfb_list.specs.Trees.{inside, mini_pieces, long_pieces};
+ghost use Rattle.cfb_list.specs.Trees.{inside};
 ghost use Rattle.cfb_writer.specs.Versions.{sector_of};
 
+use crate::streams::{Share, pieces_of};
 use crate::version::Version;
 use carrier_io::{Blob, NoMemory};
-use cfb_list::{Content, FileList, Kind};
+use cfb_list::{FileList, Kind};
 use std::alloc::Global;
 
 /// How many entries, mini sectors and sectors of streams of their own there are. A number above the greatest `u64` stays
@@ -44,45 +45,19 @@ impl Totals {
     }
 }
 
-/// The mini sectors of a content.
-fn mini_of<B: Blob>(content: &Content<'_, B>) -> u64
-    ensures { result ≡ mini_pieces (content_bytes B.bytes content.now) }
-{
-    if content.is_short() {
-        content.pieces(64)
-    } else {
-        0
-    }
-}
-
-/// The sectors of a content.
-fn long_of<B: Blob>(version: Version, content: &Content<'_, B>) -> u64
-    ensures { result ≡ long_pieces (sector_of version) (content_bytes B.bytes content.now) }
-{
-    if content.is_long() {
-        content.pieces(version.sector())
-    } else {
-        0
-    }
-}
-
 /// What a stream needs, or a storage with what is in it.
 fn kind_totals<B: Blob>(version: Version, kind: &Kind<'_, B>, totals: &[Totals]) -> Totals
     requires { (parent : ℕ) × listed.IsChild parent (length totals.now) (child_named B.bytes [] kind.now) }
     ensures { (parent : ℕ) (name : List ℕ) (tree : ℕ → FileTree) → listed.IsChild parent (length totals.now) (child_named B.bytes [] kind.now) → AreKnown (sector_of version) tree (parent + 1) totals.now → result ≡ totals_of (sector_of version) (listed.built tree (child_named B.bytes name kind.now ∷ [])) }
 {
+    let own = Totals {
+        entries: 1,
+        mini: pieces_of(kind, Share::Short, 64),
+        long: pieces_of(kind, Share::Long, version.sector()),
+    };
     match kind {
-        Kind::Stream(content) => Totals {
-            entries: 1,
-            mini: mini_of(content),
-            long: long_of(version, content),
-        },
-        Kind::Storage { number, .. } => Totals {
-            entries: 1,
-            mini: 0,
-            long: 0,
-        }
-        .and(totals[*number]),
+        Kind::Stream(_) => own,
+        Kind::Storage { number, .. } => own.and(totals[*number]),
     }
 }
 
