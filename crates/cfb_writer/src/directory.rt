@@ -17,6 +17,7 @@ use crate::header::start_or_end;
 use crate::links::NO_LINK;
 use crate::numbers::Numbers;
 use crate::runs::END;
+use crate::sizes::{ENTRY, MINI_SECTOR};
 use crate::streams::{Share, pieces_of};
 use crate::version::Version;
 use carrier_io::{Blob, Failed, Sink, le16, le32};
@@ -187,7 +188,7 @@ fn append_entries<B: Blob, W: Sink>(
     for k in 0..entries.len() {
         let entry = entries.entry(k);
         sum = sum.wrapping_add(append_entry(sink, &entry, next)?);
-        next.mini += pieces_of(&entry.file.kind, Share::Short, 64) as u32;
+        next.mini += pieces_of(&entry.file.kind, Share::Short, MINI_SECTOR) as u32;
         next.long += pieces_of(&entry.file.kind, Share::Long, version.sector()) as u32;
     }
     Ok(sum)
@@ -209,7 +210,7 @@ fn append_root<B: Blob, W: Sink>(
         child: entries.top(),
         class: entries.root_class(),
         start: start_or_end(numbers.mini_sectors, numbers.mini_stream_start()),
-        size: 64 * numbers.mini_sectors,
+        size: MINI_SECTOR as u32 * numbers.mini_sectors,
     };
     append_fields(sink, &ROOT_NAME, &fields)
 }
@@ -244,7 +245,7 @@ pub fn append_directory<B: Blob, W: Sink>(
         long: numbers.long_start(),
     };
     let others = append_entries(sink, version, entries, first)?;
-    let room = version.sector() as u32 / 128 * numbers.directory;
+    let room = version.sector() as u32 / ENTRY as u32 * numbers.directory;
     let unused = append_unused(sink, room - (1 + entries.len() as u32))?;
     Ok(root.wrapping_add(others.wrapping_add(unused)))
 }

@@ -4,6 +4,7 @@ ghost use Rattle.carrier_model.specs.Layout as layout;
 ghost use Rattle.carrier_model.specs.Tables as tables;
 ghost use Rattle.cfb_writer.specs.Versions.{sector_of};
 
+use crate::sizes::HEADER_DIFAT;
 use crate::version::Version;
 
 /// How many sectors list the sectors of a table, beside the header. [MS-CFB 2.5]
@@ -11,8 +12,8 @@ pub fn difat_count(version: Version, fat: u64) -> u64
     requires { fat ≤ 2 ^ 62 }
     ensures { result ≡ tables.difat_count (sector_of version) fat }
 {
-    let words = version.sector() / 4;
-    (fat.saturating_sub(109) + (words - 2)) / (words - 1)
+    let words = version.words();
+    (fat.saturating_sub(HEADER_DIFAT as u64) + (words - 2)) / (words - 1)
 }
 
 /// Whether a table of so many sectors has a word for every sector.
@@ -21,7 +22,7 @@ fn suffices(version: Version, rest: u64, fat: u64) -> bool
     requires fat { fat ≤ rest + 1 }
     ensures { result ≡ layout.suffices (sector_of version) rest fat }
 {
-    let words = version.sector() / 4;
+    let words = version.words();
     fat + difat_count(version, fat) + rest <= words.saturating_mul(fat)
 }
 
@@ -31,7 +32,7 @@ pub fn fat_count(version: Version, rest: u64) -> u64
     ensures least { result ≡ layout.fat_count (sector_of version) rest }
     ensures few { result ≤ rest + 1 }
 {
-    let words = version.sector() / 4;
+    let words = version.words();
     let mut fat = 0;
     while !suffices(version, rest, fat) {
         fat = (rest + difat_count(version, fat)).div_ceil(words - 1);

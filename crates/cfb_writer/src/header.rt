@@ -8,6 +8,7 @@ ghost use Rattle.cfb_writer.specs.Versions.{sector_of};
 use crate::appending::append_parts;
 use crate::numbers::Numbers;
 use crate::runs::{END, FREE, Run, append_runs};
+use crate::sizes::{CUTOFF, HEADER, HEADER_DIFAT};
 use crate::version::Version;
 use carrier_io::{Failed, Sink, append_zeros, le32};
 
@@ -63,7 +64,7 @@ fn append_counts<W: Sink>(sink: &mut W, version: Version, numbers: &Numbers) -> 
             &le32(numbers.fat),
             &le32(numbers.directory_start()),
             &le32(0),
-            &le32(4096),
+            &le32(CUTOFF),
             &le32(start_or_end(numbers.mini_fat, numbers.mini_fat_start())),
             &le32(numbers.mini_fat),
             &le32(start_or_end(numbers.difat, numbers.fat)),
@@ -82,11 +83,14 @@ pub fn append_header<W: Sink>(
     ensures { Sums (W.held sink.old) (W.held sink.new) (W.faults sink.old) (W.faults sink.new) result (layout.header_bytes (sector_of version) (plan_seen numbers.now)) }
 {
     let counts = append_counts(sink, version, numbers)?;
-    let listed = numbers.fat.min(109);
+    let listed = numbers.fat.min(HEADER_DIFAT);
     let list = append_runs(
         sink,
-        &[(Run::Numbers(0), listed), (Run::Same(FREE), 109 - listed)],
+        &[
+            (Run::Numbers(0), listed),
+            (Run::Same(FREE), HEADER_DIFAT - listed),
+        ],
     )?;
-    let zeros = append_zeros(sink, version.sector() - 512)?;
+    let zeros = append_zeros(sink, version.sector() - HEADER)?;
     Ok(counts.wrapping_add(list.wrapping_add(zeros)))
 }

@@ -14,6 +14,7 @@ mod placing;
 mod plan;
 mod plan_entries;
 mod runs;
+mod sizes;
 mod streams;
 mod table;
 mod totals;

@@ -8,6 +8,7 @@ ghost use Rattle.cfb_writer.specs.Versions.{sector_of};
 
 use crate::fat_count::{difat_count, fat_count};
 use crate::numbers::Numbers;
+use crate::sizes::{ENTRY, MINI_SECTOR, WORD};
 use crate::totals::Totals;
 use crate::version::Version;
 
@@ -84,9 +85,9 @@ fn count_parts(version: Version, totals: Totals) -> Parts
     ensures few { sectors_in (parts_seen result) < 2 ^ 63 }
 {
     let sector = version.sector();
-    let directory = (128 * (totals.entries + 1)).div_ceil(sector);
-    let mini_fat = (4 * totals.mini).div_ceil(sector);
-    let mini_stream = (64 * totals.mini).div_ceil(sector);
+    let directory = (ENTRY * (totals.entries + 1)).div_ceil(sector);
+    let mini_fat = (WORD * totals.mini).div_ceil(sector);
+    let mini_stream = (MINI_SECTOR * totals.mini).div_ceil(sector);
     let fat = fat_count(version, directory + mini_fat + mini_stream + totals.long);
     Parts {
         fat,

@@ -9,6 +9,7 @@ ghost use Rattle.cfb_writer.specs.Versions.{sector_of};
 use crate::entries::Entries;
 use crate::numbers::Numbers;
 use crate::runs::{END, FREE, Run, append_run, append_runs};
+use crate::sizes::{HEADER_DIFAT, MINI_SECTOR};
 use crate::streams::{Share, append_chains};
 use crate::version::Version;
 use carrier_io::{Blob, Failed, Sink};
@@ -55,7 +56,7 @@ pub fn append_table<B: Blob, W: Sink>(
         version.sector(),
         numbers.long_start(),
     )?;
-    let words = version.sector() as u32 / 4 * numbers.fat;
+    let words = version.words() as u32 * numbers.fat;
     let free = append_run(
         sink,
         Run::Same(FREE),
@@ -75,8 +76,8 @@ pub fn append_mini_table<B: Blob, W: Sink>(
     requires plan { IsPlanFor (sector_of version) (plan_seen numbers.now) (slots_in entries.now) }
     ensures { Sums (W.held sink.old) (W.held sink.new) (W.faults sink.old) (W.faults sink.new) result (layout.words_bytes (layout.mini_table_of (sector_of version) (plan_seen numbers.now) (slots_in entries.now))) }
 {
-    let chains = append_chains(sink, entries, Share::Short, 64, 0)?;
-    let words = version.sector() as u32 / 4 * numbers.mini_fat;
+    let chains = append_chains(sink, entries, Share::Short, MINI_SECTOR, 0)?;
+    let words = version.words() as u32 * numbers.mini_fat;
     let free = append_run(sink, Run::Same(FREE), words - numbers.mini_sectors)?;
     Ok(chains.wrapping_add(free))
 }
@@ -105,8 +106,8 @@ fn append_list<W: Sink>(
     requires place { k < numbers.now.difat }
     ensures { Sums (W.held sink.old) (W.held sink.new) (W.faults sink.old) (W.faults sink.new) result (layout.words_bytes (layout.difat_words (sector_of version) (plan_seen numbers.now) k)) }
 {
-    let each = version.sector() as u32 / 4 - 1;
-    let first = 109 + each * k;
+    let each = version.words() as u32 - 1;
+    let first = HEADER_DIFAT + each * k;
     let listed = numbers.fat.saturating_sub(first).min(each);
     let last = list_behind(numbers, k);
     append_runs(

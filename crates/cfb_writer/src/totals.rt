@@ -8,6 +8,7 @@ ghost use Rattle.cfb_writer.specs.Totals.{totals_of, AreKnown};
 ghost use Rattle.cfb_list.specs.Trees.{inside};
 ghost use Rattle.cfb_writer.specs.Versions.{sector_of};
 
+use crate::sizes::MINI_SECTOR;
 use crate::streams::{Share, pieces_of};
 use crate::version::Version;
 use carrier_io::{Blob, NoMemory};
@@ -52,7 +53,7 @@ fn kind_totals<B: Blob>(version: Version, kind: &Kind<'_, B>, totals: &[Totals])
 {
     let own = Totals {
         entries: 1,
-        mini: pieces_of(kind, Share::Short, 64),
+        mini: pieces_of(kind, Share::Short, MINI_SECTOR),
         long: pieces_of(kind, Share::Long, version.sector()),
     };
     match kind {

@@ -1,6 +1,8 @@
 //! The versions of the format.
-ghost use Rattle.std.specs.Prelude.{◌≡◌};
+ghost use Rattle.std.specs.Prelude.{◌≡◌, ◌/◌};
 ghost use Rattle.cfb_writer.specs.Versions.{sector_of};
+
+use crate::sizes::WORD;
 
 /// The major version of a compound file. [MS-CFB 2.2]
 #[derive(Clone, Copy, Debug, PartialEq, Eq)]
@@ -20,5 +22,12 @@ impl Version {
             Version::Three => 512,
             Version::Four => 4096,
         }
+    }
+
+    /// How many words a sector of the FAT has. [MS-CFB 2.3]
+    pub fn words(self) -> u64
+        ensures { result ≡ sector_of self / 4 }
+    {
+        self.sector() / WORD
     }
 }

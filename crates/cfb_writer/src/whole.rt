@@ -11,6 +11,7 @@ use crate::directory::append_directory;
 use crate::entries::Entries;
 use crate::header::append_header;
 use crate::numbers::Numbers;
+use crate::sizes::MINI_SECTOR;
 use crate::streams::{Share, append_streams};
 use crate::table::{append_lists, append_mini_table, append_table};
 use crate::version::Version;
@@ -44,9 +45,9 @@ fn append_mini_stream<B: Blob, W: Sink>(
     requires plan { IsPlanFor (sector_of version) (plan_seen numbers.now) (slots_in entries.now) }
     ensures { Sums (W.held sink.old) (W.held sink.new) (W.faults sink.old) (W.faults sink.new) result (layout.mini_stream_bytes (sector_of version) (slots_in entries.now)) }
 {
-    let streams = append_streams(sink, entries, Share::Short, 64)?;
+    let streams = append_streams(sink, entries, Share::Short, MINI_SECTOR)?;
     let room = version.sector() * numbers.mini_stream as u64;
-    let zeros = append_zeros(sink, room - 64 * numbers.mini_sectors as u64)?;
+    let zeros = append_zeros(sink, room - MINI_SECTOR * numbers.mini_sectors as u64)?;
     Ok(streams.wrapping_add(zeros))
 }
 

@@ -13,8 +13,8 @@ pub loop-version-preserved : goal.loop-version-preserved
 loop-version-preserved c =
     let next : c.div_ceil-fat.result ≡ div_ceil (c.args.rest + difat_count (sector_of c.args.version) c.loop-version.fat) (sector_of c.args.version / 4 - 1) =
     c.div_ceil-fat.ensures
-    ∙ ap (λ (d : ℕ). div_ceil (c.args.rest + d) (c.sector-words.result / 4 - 1)) c.difat_count.ensures
-    ∙ ap (λ (z : ℕ). div_ceil (c.args.rest + difat_count (sector_of c.args.version) c.loop-version.fat) (z / 4 - 1)) c.sector-words.ensures
+    ∙ ap (λ (d : ℕ). div_ceil (c.args.rest + d) (c.words-words.result - 1)) c.difat_count.ensures
+    ∙ ap (λ (w : ℕ). div_ceil (c.args.rest + difat_count (sector_of c.args.version) c.loop-version.fat) (w - 1)) c.words-words.ensures
     in
     subst (λ (n : ℕ). n ≤ fat_count (sector_of c.args.version) c.args.rest) (sym next) (next-within c.args.version c.args.rest c.loop-version.fat c.loop-version.invariant)
 
@@ -22,8 +22,8 @@ pub loop-version-smaller : goal.loop-version-smaller
 loop-version-smaller c =
     let next : c.div_ceil-fat.result ≡ div_ceil (c.args.rest + difat_count (sector_of c.args.version) c.loop-version.fat) (sector_of c.args.version / 4 - 1) =
     c.div_ceil-fat.ensures
-    ∙ ap (λ (d : ℕ). div_ceil (c.args.rest + d) (c.sector-words.result / 4 - 1)) c.difat_count.ensures
-    ∙ ap (λ (z : ℕ). div_ceil (c.args.rest + difat_count (sector_of c.args.version) c.loop-version.fat) (z / 4 - 1)) c.sector-words.ensures
+    ∙ ap (λ (d : ℕ). div_ceil (c.args.rest + d) (c.words-words.result - 1)) c.difat_count.ensures
+    ∙ ap (λ (w : ℕ). div_ceil (c.args.rest + difat_count (sector_of c.args.version) c.loop-version.fat) (w - 1)) c.words-words.ensures
     in
     let bad : c.suffices.result ≡ false = search rules in
     omega (arith, next, next-above c.args.version c.args.rest c.loop-version.fat (sym c.suffices.ensures ∙ bad), next-within c.args.version c.args.rest c.loop-version.fat c.loop-version.invariant, count-bound c.args.version c.args.rest)

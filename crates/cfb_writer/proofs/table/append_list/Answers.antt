@@ -13,7 +13,7 @@ returns g c =
     let p = plan_seen c.args.numbers.now in
     let n : c.min-listed.result ≡ min (p.fat - (109 + (z / 4 - 1) * c.args.k)) (z / 4 - 1) =
     c.min-listed.ensures
-    ∙ ap (λ (m : ℕ). min m (c.sector.result / 4 - 1)) c.saturating_sub.ensures
-    ∙ ap (λ (s : ℕ). min (p.fat - (109 + (s / 4 - 1) * c.args.k)) (s / 4 - 1)) c.sector.ensures
+    ∙ ap (λ (m : ℕ). min m (c.words.result - 1)) c.saturating_sub.ensures
+    ∙ ap (λ (w : ℕ). min (p.fat - (109 + (w - 1) * c.args.k)) (w - 1)) c.words.ensures
     in
-    as_bytes (ap words_bytes (list_is z p c.args.k c.min-listed.result c.list_behind-last.result n c.list_behind-last.ensures)) (rw c.sector.ensures at c.append_runs.ensures)
+    as_bytes (ap words_bytes (list_is z p c.args.k c.min-listed.result c.list_behind-last.result n c.list_behind-last.ensures)) (rw c.words.ensures at c.append_runs.ensures)

@@ -26,7 +26,7 @@ returns-in_err-free g c =
     let slots = slots_in c.args.entries.now in
     let free = z / 4 * p.sizes.mini_fat - p.sizes.mini_sectors in
     let all = mini_table_is z p slots free c.requires.plan refl in
-    let last = as_bytes (ap (λ (s : ℕ). words_bytes (replicate {A = ℕ} (s / 4 * p.sizes.mini_fat - p.sizes.mini_sectors) FREE)) c.sector.ensures) c.in_err-free.ensures in
+    let last = as_bytes (ap (λ (w : ℕ). words_bytes (replicate {A = ℕ} (w * p.sizes.mini_fat - p.sizes.mini_sectors) FREE)) c.words.ensures) c.in_err-free.ensures in
     as_bytes all (sums_second c.from_residual-in_err-free.ensures.0 c.in_ok-chains.ensures last)
 
 pub returns : goal.returns
@@ -36,5 +36,5 @@ returns g c =
     let slots = slots_in c.args.entries.now in
     let free = z / 4 * p.sizes.mini_fat - p.sizes.mini_sectors in
     let all = mini_table_is z p slots free c.requires.plan refl in
-    let last = as_bytes (ap (λ (s : ℕ). words_bytes (replicate {A = ℕ} (s / 4 * p.sizes.mini_fat - p.sizes.mini_sectors) FREE)) c.sector.ensures) c.in_ok-free.ensures in
+    let last = as_bytes (ap (λ (w : ℕ). words_bytes (replicate {A = ℕ} (w * p.sizes.mini_fat - p.sizes.mini_sectors) FREE)) c.words.ensures) c.in_ok-free.ensures in
     as_bytes all (sums_both {F = Failed} _ refl c.in_ok-chains.ensures last)

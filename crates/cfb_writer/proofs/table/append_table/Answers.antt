@@ -14,7 +14,7 @@ pub overflow_sub-words : goal.overflow_sub-words
 overflow_sub-words g c =
     let p = plan_seen c.args.numbers.now in
     let h = enough c.args.version p (slots_in c.args.entries.now) c.requires.plan in
-    subst (λ (s : ℕ). c.long_start-2.result + c.args.numbers.now.long ≤ s / 4 * c.args.numbers.now.fat) (sym c.sector-2.ensures) (omega (arith, h, c.long_start-2.ensures))
+    subst (λ (w : ℕ). c.long_start-2.result + c.args.numbers.now.long ≤ w * c.args.numbers.now.fat) (sym c.words.ensures) (omega (arith, h, c.long_start-2.ensures))
 
 pub returns-in_err-fronts : goal.returns-in_err-fronts
 returns-in_err-fronts g c =
@@ -43,7 +43,7 @@ returns-in_err-free g c =
     let free = z / 4 * p.fat - (long_start p + p.sizes.long) in
     let all = table_is z p slots free c.requires.plan refl in
     let chains = (rw (c.sector.ensures, c.long_start.ensures) at c.in_ok-chains.ensures) in
-    let count : c.sector-2.result / 4 * p.fat - (c.long_start-2.result + p.sizes.long) ≡ free = ap (λ (s : ℕ). s / 4 * p.fat - (c.long_start-2.result + p.sizes.long)) c.sector-2.ensures ∙ ap (λ (l : ℕ). z / 4 * p.fat - (l + p.sizes.long)) c.long_start-2.ensures in
+    let count : c.words.result * p.fat - (c.long_start-2.result + p.sizes.long) ≡ free = ap (λ (w : ℕ). w * p.fat - (c.long_start-2.result + p.sizes.long)) c.words.ensures ∙ ap (λ (l : ℕ). z / 4 * p.fat - (l + p.sizes.long)) c.long_start-2.ensures in
     let last = as_bytes (ap (λ (n : ℕ). words_bytes (replicate {A = ℕ} n FREE)) count) c.in_err-free.ensures in
     as_bytes all (sums_second c.from_residual-in_err-free.ensures.0 c.in_ok-fronts.ensures (sums_second {r = Err c.in_err-free.field-0.0} refl chains last))
 
@@ -55,6 +55,6 @@ returns g c =
     let free = z / 4 * p.fat - (long_start p + p.sizes.long) in
     let all = table_is z p slots free c.requires.plan refl in
     let chains = (rw (c.sector.ensures, c.long_start.ensures) at c.in_ok-chains.ensures) in
-    let count : c.sector-2.result / 4 * p.fat - (c.long_start-2.result + p.sizes.long) ≡ free = ap (λ (s : ℕ). s / 4 * p.fat - (c.long_start-2.result + p.sizes.long)) c.sector-2.ensures ∙ ap (λ (l : ℕ). z / 4 * p.fat - (l + p.sizes.long)) c.long_start-2.ensures in
+    let count : c.words.result * p.fat - (c.long_start-2.result + p.sizes.long) ≡ free = ap (λ (w : ℕ). w * p.fat - (c.long_start-2.result + p.sizes.long)) c.words.ensures ∙ ap (λ (l : ℕ). z / 4 * p.fat - (l + p.sizes.long)) c.long_start-2.ensures in
     let last = as_bytes (ap (λ (n : ℕ). words_bytes (replicate {A = ℕ} n FREE)) count) c.in_ok-free.ensures in
     as_bytes all (sums_both {F = Failed} _ refl c.in_ok-fronts.ensures (sums_both {F = Failed} _ refl chains last))
