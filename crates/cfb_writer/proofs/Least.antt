@@ -1,4 +1,4 @@
--- The least table that suffices.
+-- The least FAT that suffices.
 use Rattle.std.proofs.Common.{◌≡◌, ℕ, zero, suc, ◌+◌, ◌-◌, ◌*◌, ◌/◌, ◌<◌, ◌≤◌, Bool, true, false, refl, sym, ap, subst, ◌∙◌, arith, inl, inr}
 use Rattle.std.specs.Prelude.{cond, nat_le}
 use Rattle.std.specs.Int.{div_ceil}

@@ -1,4 +1,4 @@
--- The words of tables.
+-- The words of the FAT, the mini FAT and the DIFAT.
 use Rattle.std.proofs.Common.{◌≡◌, ℕ, suc, ◌+◌, ◌-◌, ◌*◌, ◌/◌, ◌<◌, ◌≤◌, List, [], ◌∷◌, ◌++◌, length, sym, ap, subst, ◌∙◌, append_assoc, arith}
 use Rattle.std.specs.Prelude.{min, replicate}
 use Rattle.std.specs.List.{flat_map, range_with_len}
@@ -17,7 +17,7 @@ use Rattle.cfb_writer.proofs.Least.{count-suffices, le_true}
 pub range_then : (f : ℕ → List ℕ) (k n : ℕ) → k < n → flat_map f (range_with_len k (n - k)) ≡ f k ++ flat_map f (range_with_len (k + 1) (n - (k + 1)))
 range_then f k n lt = let e : n - k ≡ suc (n - (k + 1)) = omega (arith, lt) in ap (λ (m : ℕ). flat_map f (range_with_len k m)) e
 
--- a sector that lists sectors of the table
+-- a DIFAT sector
 pub list_is : (z : ℕ) (p : Plan) (k n last : ℕ) → n ≡ min (p.fat - (109 + (z / 4 - 1) * k)) (z / 4 - 1) → last ≡ next_list p k → range_with_len (109 + (z / 4 - 1) * k) n ++ (replicate (z / 4 - 1 - n) FREE ++ (last ∷ [])) ≡ difat_words z p k
 list_is z p k n last e l =
     let first = 109 + (z / 4 - 1) * k in
@@ -27,7 +27,7 @@ list_is z p k n last e l =
     ∙ ap (λ (i : ℕ). range_with_len first m ++ (replicate (z / 4 - 1 - i) FREE ++ (last ∷ []))) (sym (length-range_with_len first m))
     ∙ ap (λ (i : ℕ). range_with_len first m ++ (replicate (z / 4 - 1 - length (range_with_len first m)) FREE ++ (i ∷ []))) l
 
--- the table of a plan is long enough
+-- the FAT of a plan is long enough
 pub enough : (v : Version) (p : Plan) (slots : List Slot) → p ≡ plan_of (sector_of v) slots → p.fat + p.difat + rest_of p.sizes ≤ sector_of v / 4 * p.fat
 enough v p slots e =
     let q = plan_of (sector_of v) slots in

@@ -34,6 +34,6 @@ front_words p =
     ++ (run_words (mini_fat_start p) p.sizes.mini_fat
     ++ run_words (mini_stream_start p) p.sizes.mini_stream)))
 
--- the next of the sectors that list the table
+-- the DIFAT sector behind the k-th
 abbrev pub next_list : Plan → ℕ → ℕ
 next_list p k = if k + 1 == p.difat then end_word else p.fat + k + 1

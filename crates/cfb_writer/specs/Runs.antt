@@ -1,4 +1,4 @@
--- Words of tables, run by run.
+-- Words of the FAT, the mini FAT and the DIFAT, run by run.
 use Rattle.std.specs.Prelude.{ℕ, ◌+◌, ◌-◌, ◌==◌, List, replicate, if◌then◌else◌}
 use Rattle.std.specs.List.{range_with_len}
 use Rattle.carrier_model.specs.Chains.{end_word}

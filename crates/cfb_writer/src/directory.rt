@@ -14,9 +14,9 @@ ghost use Rattle.cfb_writer.specs.Versions.{sector_of};
 use crate::appending::append_parts;
 use crate::entries::{Entries, Entry};
 use crate::header::start_or_end;
-use crate::links::NO_LINK;
+use crate::links::NO_STREAM;
 use crate::numbers::Numbers;
-use crate::runs::END;
+use crate::runs::END_OF_CHAIN;
 use crate::sizes::{ENTRY, MINI_SECTOR};
 use crate::streams::{Share, pieces_of};
 use crate::version::Version;
@@ -138,7 +138,7 @@ fn start_of<B: Blob>(content: &Content<'_, B>, next: Next) -> u32
     } else if content.is_long() {
         next.long
     } else {
-        END
+        END_OF_CHAIN
     }
 }
 
@@ -205,8 +205,8 @@ fn append_root<B: Blob, W: Sink>(
 {
     let fields = Fields {
         kind: ROOT,
-        left: NO_LINK,
-        right: NO_LINK,
+        left: NO_STREAM,
+        right: NO_STREAM,
         child: entries.top(),
         class: entries.root_class(),
         start: start_or_end(numbers.mini_sectors, numbers.mini_stream_start()),

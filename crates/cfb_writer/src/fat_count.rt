@@ -1,4 +1,4 @@
-//! The least number of sectors of a table.
+//! The least number of sectors of a FAT.
 ghost use Rattle.std.specs.Prelude.{◌≡◌, ◌≤◌, ◌+◌, ◌*◌, ◌/◌, ◌^◌};
 ghost use Rattle.carrier_model.specs.Layout as layout;
 ghost use Rattle.carrier_model.specs.Tables as tables;
@@ -7,7 +7,7 @@ ghost use Rattle.cfb_writer.specs.Versions.{sector_of};
 use crate::sizes::HEADER_DIFAT;
 use crate::version::Version;
 
-/// How many sectors list the sectors of a table, beside the header. [MS-CFB 2.5]
+/// How many DIFAT sectors list the sectors of a FAT, beside the header. [MS-CFB 2.5]
 pub fn difat_count(version: Version, fat: u64) -> u64
     requires { fat ≤ 2 ^ 62 }
     ensures { result ≡ tables.difat_count (sector_of version) fat }
@@ -16,7 +16,7 @@ pub fn difat_count(version: Version, fat: u64) -> u64
     (fat.saturating_sub(HEADER_DIFAT as u64) + (words - 2)) / (words - 1)
 }
 
-/// Whether a table of so many sectors has a word for every sector.
+/// Whether a FAT of so many sectors has a word for every sector.
 fn suffices(version: Version, rest: u64, fat: u64) -> bool
     requires rest { rest ≤ 2 ^ 60 }
     requires fat { fat ≤ rest + 1 }
@@ -26,7 +26,7 @@ fn suffices(version: Version, rest: u64, fat: u64) -> bool
     fat + difat_count(version, fat) + rest <= words.saturating_mul(fat)
 }
 
-/// The least number of sectors of a table that has a word for every sector, where there are so many others.
+/// The least number of sectors of a FAT that has a word for every sector, where there are so many others.
 pub fn fat_count(version: Version, rest: u64) -> u64
     requires { rest ≤ 2 ^ 60 }
     ensures least { result ≡ layout.fat_count (sector_of version) rest }

@@ -7,7 +7,7 @@ ghost use Rattle.cfb_writer.specs.Versions.{sector_of};
 
 use crate::appending::append_parts;
 use crate::numbers::Numbers;
-use crate::runs::{END, FREE, Run, append_runs};
+use crate::runs::{END_OF_CHAIN, FREE_SECTOR, Run, append_runs};
 use crate::sizes::{CUTOFF, HEADER, HEADER_DIFAT};
 use crate::version::Version;
 use carrier_io::{Failed, Sink, append_zeros, le32};
@@ -48,10 +48,10 @@ fn directory_field(version: Version, numbers: &Numbers) -> u32
 pub fn start_or_end(count: u32, start: u32) -> u32
     ensures { result ≡ layout.start_or_end count start }
 {
-    if count == 0 { END } else { start }
+    if count == 0 { END_OF_CHAIN } else { start }
 }
 
-/// Appends what stands before the list of sectors.
+/// Appends what stands before the header's list of sectors of the FAT.
 fn append_counts<W: Sink>(sink: &mut W, version: Version, numbers: &Numbers) -> Result<u16, Failed>
     requires { IsSmall numbers.now }
     ensures { Sums (W.held sink.old) (W.held sink.new) (W.faults sink.old) (W.faults sink.new) result (layout.header_front (sector_of version) ++ layout.header_counts (sector_of version) (plan_seen numbers.now)) }
@@ -88,7 +88,7 @@ pub fn append_header<W: Sink>(
         sink,
         &[
             (Run::Numbers(0), listed),
-            (Run::Same(FREE), HEADER_DIFAT - listed),
+            (Run::Same(FREE_SECTOR), HEADER_DIFAT - listed),
         ],
     )?;
     let zeros = append_zeros(sink, version.sector() - HEADER)?;

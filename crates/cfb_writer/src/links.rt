@@ -4,15 +4,15 @@ ghost use Rattle.carrier_model.specs.Layout as layout;
 
 use carrier_io::NoMemory;
 
-/// Where there is no sibling and no child.
-pub const NO_LINK: u32 = 0xFFFF_FFFF;
+/// The link where there is no sibling and no child. [MS-CFB 2.6.1]
+pub const NO_STREAM: u32 = 0xFFFF_FFFF;
 
 /// The number at the top of a balanced tree of siblings: the middle one.
 pub fn top_of(numbers: &[u32]) -> u32
     ensures { result ≡ layout.top_of numbers.now }
 {
     if numbers.is_empty() {
-        return NO_LINK;
+        return NO_STREAM;
     }
     numbers[(numbers.len() - 1) / 2]
 }

@@ -3,8 +3,8 @@ ghost use Rattle.std.specs.Prelude.{◌≡◌};
 ghost use Rattle.carrier_model.specs.Layout as layout;
 ghost use Rattle.cfb_writer.specs.Numbered.{plan_seen, IsSmall};
 
-/// How many sectors each part has: the table, the sectors that list it, the directory, the mini table, the mini stream
-/// and the streams with sectors of their own. Of the mini stream also how many mini sectors.
+/// How many sectors each part has: the FAT, the DIFAT beside the header, the directory, the mini FAT, the mini stream and
+/// the streams with sectors of their own. Of the mini stream also how many mini sectors.
 #[derive(Clone, Copy, Debug, PartialEq, Eq)]
 pub struct Numbers {
     pub fat: u32,
@@ -25,7 +25,7 @@ impl Numbers {
         self.fat + self.difat
     }
 
-    /// The number of the first sector of the mini table. [MS-CFB 2.4]
+    /// The number of the first sector of the mini FAT. [MS-CFB 2.4]
     pub fn mini_fat_start(&self) -> u32
         requires { IsSmall self.now }
         ensures { result ≡ layout.mini_fat_start (plan_seen self.now) }

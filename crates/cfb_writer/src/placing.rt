@@ -10,7 +10,7 @@ ghost use Rattle.cfb_list.specs.Listed as listed;
 ghost use Rattle.cfb_writer.specs.Placed as placed;
 ghost use Rattle.cfb_list.specs.Trees.{inside};
 
-use crate::links::{NO_LINK, append_links, top_of};
+use crate::links::{NO_STREAM, append_links, top_of};
 use crate::totals::Totals;
 use carrier_io::{Blob, NoMemory};
 use cfb_list::{FileList, Kind};
@@ -123,7 +123,7 @@ fn append_file<B: Blob>(
         file,
         left,
         right,
-        child: NO_LINK,
+        child: NO_STREAM,
     };
     match &list.files_in(storage)[file].kind {
         Kind::Stream(_) => {

@@ -1,4 +1,4 @@
-//! Words of tables, run by run.
+//! Words of the FAT, the mini FAT and the DIFAT, run by run.
 ghost use Rattle.std.specs.Prelude.{◌≡◌, ◌<◌, ◌≤◌, ◌+◌, ◌^◌};
 ghost use Rattle.std.specs.List.{AllByRecursion, flat_map};
 ghost use Rattle.carrier_model.specs.Layout as layout;
@@ -7,11 +7,11 @@ ghost use Rattle.carrier_io.specs.Summed.{Sums};
 
 use carrier_io::{Failed, Sink, append, le32};
 
-/// The end of a chain. [MS-CFB 2.1]
-pub const END: u32 = 0xFFFF_FFFE;
+/// The word that ends a chain. [MS-CFB 2.1]
+pub const END_OF_CHAIN: u32 = 0xFFFF_FFFE;
 
-/// A word that is not used.
-pub const FREE: u32 = 0xFFFF_FFFF;
+/// The word of a sector that is not used. [MS-CFB 2.1]
+pub const FREE_SECTOR: u32 = 0xFFFF_FFFF;
 
 /// Words that follow a rule.
 #[derive(Clone, Copy, Debug, PartialEq, Eq)]
@@ -33,7 +33,13 @@ impl Run {
     {
         match self {
             Run::Same(word) => word,
-            Run::Chain(first) => { if k + 1 == count { END } else { first + k + 1 } }
+            Run::Chain(first) => {
+                if k + 1 == count {
+                    END_OF_CHAIN
+                } else {
+                    first + k + 1
+                }
+            }
             Run::Numbers(first) => first + k,
         }
     }

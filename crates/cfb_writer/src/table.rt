@@ -1,4 +1,4 @@
-//! The table, the mini table, and the list of the table's sectors.
+//! The FAT, the mini FAT, and the DIFAT sectors.
 ghost use Rattle.std.specs.Prelude.{◌≡◌, ◌≤◌, ◌<◌, ◌+◌};
 ghost use Rattle.carrier_model.specs.Layout as layout;
 ghost use Rattle.cfb_writer.specs.Laid.{slots_in};
@@ -8,16 +8,16 @@ ghost use Rattle.cfb_writer.specs.Versions.{sector_of};
 
 use crate::entries::Entries;
 use crate::numbers::Numbers;
-use crate::runs::{END, FREE, Run, append_run, append_runs};
+use crate::runs::{END_OF_CHAIN, FREE_SECTOR, Run, append_run, append_runs};
 use crate::sizes::{HEADER_DIFAT, MINI_SECTOR};
 use crate::streams::{Share, append_chains};
 use crate::version::Version;
 use carrier_io::{Blob, Failed, Sink};
 
-/// The word of a sector of the table.
+/// The word of a sector of the FAT. [MS-CFB 2.1]
 const FAT_SECTOR: u32 = 0xFFFF_FFFD;
 
-/// The word of a sector that lists the table's.
+/// The word of a DIFAT sector. [MS-CFB 2.1]
 const DIFAT_SECTOR: u32 = 0xFFFF_FFFC;
 
 /// Appends the words of all parts before the streams with sectors of their own.
@@ -37,8 +37,8 @@ fn append_fronts<W: Sink>(sink: &mut W, numbers: &Numbers) -> Result<u16, Failed
     )
 }
 
-/// Appends the table. [MS-CFB 2.3]
-pub fn append_table<B: Blob, W: Sink>(
+/// Appends the FAT. [MS-CFB 2.3]
+pub fn append_fat<B: Blob, W: Sink>(
     sink: &mut W,
     version: Version,
     numbers: &Numbers,
@@ -59,14 +59,14 @@ pub fn append_table<B: Blob, W: Sink>(
     let words = version.words() as u32 * numbers.fat;
     let free = append_run(
         sink,
-        Run::Same(FREE),
+        Run::Same(FREE_SECTOR),
         words - (numbers.long_start() + numbers.long),
     )?;
     Ok(fronts.wrapping_add(chains.wrapping_add(free)))
 }
 
-/// Appends the mini table. [MS-CFB 2.4]
-pub fn append_mini_table<B: Blob, W: Sink>(
+/// Appends the mini FAT. [MS-CFB 2.4]
+pub fn append_mini_fat<B: Blob, W: Sink>(
     sink: &mut W,
     version: Version,
     numbers: &Numbers,
@@ -78,25 +78,25 @@ pub fn append_mini_table<B: Blob, W: Sink>(
 {
     let chains = append_chains(sink, entries, Share::Short, MINI_SECTOR, 0)?;
     let words = version.words() as u32 * numbers.mini_fat;
-    let free = append_run(sink, Run::Same(FREE), words - numbers.mini_sectors)?;
+    let free = append_run(sink, Run::Same(FREE_SECTOR), words - numbers.mini_sectors)?;
     Ok(chains.wrapping_add(free))
 }
 
-/// The word that names the next sector that lists sectors of the table, behind the k-th.
-fn list_behind(numbers: &Numbers, k: u32) -> u32
+/// The word that names the DIFAT sector behind the k-th.
+fn difat_behind(numbers: &Numbers, k: u32) -> u32
     requires small { IsSmall numbers.now }
     requires place { k < numbers.now.difat }
     ensures { result ≡ next_list (plan_seen numbers.now) k }
 {
     if k + 1 == numbers.difat {
-        END
+        END_OF_CHAIN
     } else {
         numbers.fat + k + 1
     }
 }
 
-/// Appends a sector that lists sectors of the table: the k-th of them, from 0. [MS-CFB 2.5]
-fn append_list<W: Sink>(
+/// Appends a DIFAT sector, which lists sectors of the FAT: the k-th, from 0. [MS-CFB 2.5]
+fn append_difat_sector<W: Sink>(
     sink: &mut W,
     version: Version,
     numbers: &Numbers,
@@ -109,19 +109,19 @@ fn append_list<W: Sink>(
     let each = version.words() as u32 - 1;
     let first = HEADER_DIFAT + each * k;
     let listed = numbers.fat.saturating_sub(first).min(each);
-    let last = list_behind(numbers, k);
+    let last = difat_behind(numbers, k);
     append_runs(
         sink,
         &[
             (Run::Numbers(first), listed),
-            (Run::Same(FREE), each - listed),
+            (Run::Same(FREE_SECTOR), each - listed),
             (Run::Same(last), 1),
         ],
     )
 }
 
-/// Appends the sectors that list those of the table.
-pub fn append_lists<W: Sink>(
+/// Appends the DIFAT sectors.
+pub fn append_difat<W: Sink>(
     sink: &mut W,
     version: Version,
     numbers: &Numbers,
@@ -131,7 +131,7 @@ pub fn append_lists<W: Sink>(
 {
     let mut sum = 0u16;
     for k in 0..numbers.difat {
-        sum = sum.wrapping_add(append_list(sink, version, numbers, k)?);
+        sum = sum.wrapping_add(append_difat_sector(sink, version, numbers, k)?);
     }
     Ok(sum)
 }

@@ -13,11 +13,11 @@ use crate::header::append_header;
 use crate::numbers::Numbers;
 use crate::sizes::MINI_SECTOR;
 use crate::streams::{Share, append_streams};
-use crate::table::{append_lists, append_mini_table, append_table};
+use crate::table::{append_difat, append_fat, append_mini_fat};
 use crate::version::Version;
 use carrier_io::{Blob, Failed, Sink, append_zeros};
 
-/// Appends the header, the table and the sectors that list it.
+/// Appends the header, the FAT and the DIFAT sectors.
 fn append_tables<B: Blob, W: Sink>(
     sink: &mut W,
     version: Version,
@@ -29,9 +29,9 @@ fn append_tables<B: Blob, W: Sink>(
     ensures { Sums (W.held sink.old) (W.held sink.new) (W.faults sink.old) (W.faults sink.new) result (layout.header_bytes (sector_of version) (plan_seen numbers.now) ++ (layout.words_bytes (layout.table_of (sector_of version) (plan_seen numbers.now) (slots_in entries.now)) ++ layout.difat_bytes (sector_of version) (plan_seen numbers.now))) }
 {
     let header = append_header(sink, version, numbers)?;
-    let table = append_table(sink, version, numbers, entries)?;
-    let lists = append_lists(sink, version, numbers)?;
-    Ok(header.wrapping_add(table.wrapping_add(lists)))
+    let fat = append_fat(sink, version, numbers, entries)?;
+    let difat = append_difat(sink, version, numbers)?;
+    Ok(header.wrapping_add(fat.wrapping_add(difat)))
 }
 
 /// Appends the mini stream.
@@ -51,7 +51,7 @@ fn append_mini_stream<B: Blob, W: Sink>(
     Ok(streams.wrapping_add(zeros))
 }
 
-/// Appends the directory, the mini table and the streams.
+/// Appends the directory, the mini FAT and the streams.
 fn append_files<B: Blob, W: Sink>(
     sink: &mut W,
     version: Version,
@@ -64,10 +64,10 @@ fn append_files<B: Blob, W: Sink>(
     ensures { Sums (W.held sink.old) (W.held sink.new) (W.faults sink.old) (W.faults sink.new) result (layout.directory_bytes (sector_of version) (plan_seen numbers.now) (slots_in entries.now) ++ (layout.words_bytes (layout.mini_table_of (sector_of version) (plan_seen numbers.now) (slots_in entries.now)) ++ (layout.mini_stream_bytes (sector_of version) (slots_in entries.now) ++ layout.long_bytes (sector_of version) (slots_in entries.now)))) }
 {
     let directory = append_directory(sink, version, numbers, entries)?;
-    let table = append_mini_table(sink, version, numbers, entries)?;
+    let mini_fat = append_mini_fat(sink, version, numbers, entries)?;
     let mini = append_mini_stream(sink, version, numbers, entries)?;
     let long = append_streams(sink, entries, Share::Long, version.sector())?;
-    Ok(directory.wrapping_add(table.wrapping_add(mini.wrapping_add(long))))
+    Ok(directory.wrapping_add(mini_fat.wrapping_add(mini.wrapping_add(long))))
 }
 
 /// Appends the whole file, and answers the sum of its bytes.

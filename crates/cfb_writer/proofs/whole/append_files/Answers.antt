@@ -17,15 +17,15 @@ returns-in_err-directory g c =
     let x = long_bytes z slots in
     sums_first (m ++ (s ++ x)) c.from_residual.ensures.0 c.in_err-directory.ensures
 
-pub returns-in_err-table : goal.returns-in_err-table
-returns-in_err-table g c =
+pub returns-in_err-mini_fat : goal.returns-in_err-mini_fat
+returns-in_err-mini_fat g c =
     let z = sector_of c.args.version in
     let p = plan_seen c.args.numbers.now in
     let slots = slots_in c.args.entries.now in
     let m = words_bytes (mini_table_of z p slots) in
     let s = mini_stream_bytes z slots in
     let x = long_bytes z slots in
-    sums_second c.from_residual-in_err-table.ensures.0 c.in_ok-directory.ensures (sums_first {r = Err c.in_err-table.field-0.0} (s ++ x) refl c.in_err-table.ensures)
+    sums_second c.from_residual-in_err-mini_fat.ensures.0 c.in_ok-directory.ensures (sums_first {r = Err c.in_err-mini_fat.field-0.0} (s ++ x) refl c.in_err-mini_fat.ensures)
 
 pub returns-in_err-mini : goal.returns-in_err-mini
 returns-in_err-mini g c =
@@ -35,14 +35,14 @@ returns-in_err-mini g c =
     let m = words_bytes (mini_table_of z p slots) in
     let s = mini_stream_bytes z slots in
     let x = long_bytes z slots in
-    sums_second c.from_residual-in_err-mini.ensures.0 c.in_ok-directory.ensures (sums_second {r = Err c.in_err-mini.field-0.0} refl c.in_ok-table.ensures (sums_first {r = Err c.in_err-mini.field-0.0} x refl c.in_err-mini.ensures))
+    sums_second c.from_residual-in_err-mini.ensures.0 c.in_ok-directory.ensures (sums_second {r = Err c.in_err-mini.field-0.0} refl c.in_ok-mini_fat.ensures (sums_first {r = Err c.in_err-mini.field-0.0} x refl c.in_err-mini.ensures))
 
 pub returns-in_err-long : goal.returns-in_err-long
 returns-in_err-long g c =
     let last = (rw c.sector.ensures at c.in_err-long.ensures) in
-    sums_second c.from_residual-in_err-long.ensures.0 c.in_ok-directory.ensures (sums_second {r = Err c.in_err-long.field-0.0} refl c.in_ok-table.ensures (sums_second {r = Err c.in_err-long.field-0.0} refl c.in_ok-mini.ensures last))
+    sums_second c.from_residual-in_err-long.ensures.0 c.in_ok-directory.ensures (sums_second {r = Err c.in_err-long.field-0.0} refl c.in_ok-mini_fat.ensures (sums_second {r = Err c.in_err-long.field-0.0} refl c.in_ok-mini.ensures last))
 
 pub returns : goal.returns
 returns g c =
     let last = (rw c.sector.ensures at c.in_ok-long.ensures) in
-    sums_both {F = Failed} _ refl c.in_ok-directory.ensures (sums_both {F = Failed} _ refl c.in_ok-table.ensures (sums_both {F = Failed} _ refl c.in_ok-mini.ensures last))
+    sums_both {F = Failed} _ refl c.in_ok-directory.ensures (sums_both {F = Failed} _ refl c.in_ok-mini_fat.ensures (sums_both {F = Failed} _ refl c.in_ok-mini.ensures last))

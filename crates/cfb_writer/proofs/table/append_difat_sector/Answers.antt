@@ -5,7 +5,7 @@ use Rattle.cfb_writer.specs.Numbered.{plan_seen}
 use Rattle.cfb_writer.specs.Versions.{sector_of}
 use Rattle.cfb_writer.proofs.Going.{as_bytes}
 use Rattle.cfb_writer.proofs.Tables.{list_is}
-use Rattle.cfb_writer.proofs.table.append_list.Goals as goal
+use Rattle.cfb_writer.proofs.table.append_difat_sector.Goals as goal
 
 pub returns : goal.returns
 returns g c =
@@ -16,4 +16,4 @@ returns g c =
     ∙ ap (λ (m : ℕ). min m (c.words.result - 1)) c.saturating_sub.ensures
     ∙ ap (λ (w : ℕ). min (p.fat - (109 + (w - 1) * c.args.k)) (w - 1)) c.words.ensures
     in
-    as_bytes (ap words_bytes (list_is z p c.args.k c.min-listed.result c.list_behind-last.result n c.list_behind-last.ensures)) (rw c.words.ensures at c.append_runs.ensures)
+    as_bytes (ap words_bytes (list_is z p c.args.k c.min-listed.result c.difat_behind-last.result n c.difat_behind-last.ensures)) (rw c.words.ensures at c.append_runs.ensures)

@@ -8,7 +8,7 @@ use Rattle.cfb_writer.specs.Versions.{sector_of}
 use Rattle.cfb_writer.proofs.Going.{as_bytes}
 use Rattle.carrier_io.proofs.Summed.{sums_both, sums_first, sums_second}
 use Rattle.cfb_writer.proofs.Tables.{enough, table_is}
-use Rattle.cfb_writer.proofs.table.append_table.Goals as goal
+use Rattle.cfb_writer.proofs.table.append_fat.Goals as goal
 
 pub overflow_sub-words : goal.overflow_sub-words
 overflow_sub-words g c =

@@ -8,7 +8,7 @@ use Rattle.cfb_writer.specs.Versions.{sector_of}
 use Rattle.cfb_writer.proofs.Going.{as_bytes}
 use Rattle.carrier_io.proofs.Summed.{sums_both, sums_first, sums_second}
 use Rattle.cfb_writer.proofs.Tables.{mini_table_is}
-use Rattle.cfb_writer.proofs.table.append_mini_table.Goals as goal
+use Rattle.cfb_writer.proofs.table.append_mini_fat.Goals as goal
 
 pub returns-in_err-chains : goal.returns-in_err-chains
 returns-in_err-chains g c =

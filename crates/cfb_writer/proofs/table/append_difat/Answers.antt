@@ -5,7 +5,7 @@ use Rattle.cfb_writer.specs.Numbered.{plan_seen}
 use Rattle.cfb_writer.specs.Versions.{sector_of}
 use Rattle.cfb_writer.proofs.Going.{going_more, going_stops}
 use Rattle.cfb_writer.proofs.Tables.{range_then}
-use Rattle.cfb_writer.proofs.table.append_lists.Goals as goal
+use Rattle.cfb_writer.proofs.table.append_difat.Goals as goal
 
 pub returns-in_err-sum : goal.returns-in_err-sum
 returns-in_err-sum g c =
