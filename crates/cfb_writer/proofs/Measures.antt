@@ -7,7 +7,7 @@ use Rattle.cfb_writer.specs.Measures.{CanBeTold, sectors_in}
 use Rattle.cfb_writer.specs.Numbered.{plan_seen, IsSmall}
 use Rattle.cfb_writer.specs.Planned.{planned}
 use Rattle.cfb_writer.specs.Versions.{sector_of}
-use Rattle.cfb_writer.specs.declared.numbers.Numbers.{Numbers}
+use Rattle.cfb_writer.specs.declared.numbers.SectorCounts.{SectorCounts}
 use Rattle.cfb_writer.specs.declared.totals.Totals.{Totals}
 use Rattle.cfb_writer.specs.declared.version.Version.{Version}
 use Rattle.cfb_writer.specs.declared.version.Version.TheVariants.{Three, Four}
@@ -29,7 +29,7 @@ sectors_few : (v : Version) (p : Plan) → sector_of v * sectors_in p ≤ MOST_B
 sectors_few Three p h = (omega (arith, h), omega (arith, h))
 sectors_few Four p h = (omega (arith, h), omega (arith, h))
 
-pub small_is : (v : Version) (n : Numbers) (entries mini long : ℕ) → plan_seen n ≡ planned (sector_of v) entries mini long → sector_of v * sectors_in (planned (sector_of v) entries mini long) ≤ MOST_BYTES → IsSmall n
+pub small_is : (v : Version) (n : SectorCounts) (entries mini long : ℕ) → plan_seen n ≡ planned (sector_of v) entries mini long → sector_of v * sectors_in (planned (sector_of v) entries mini long) ≤ MOST_BYTES → IsSmall n
 small_is v n entries mini long e h =
     let p = plan_seen n in
     let few = sectors_few v p (subst (λ (q : Plan). sector_of v * sectors_in q ≤ MOST_BYTES) (sym e) h) in

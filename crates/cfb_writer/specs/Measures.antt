@@ -5,14 +5,14 @@ use Rattle.carrier_model.specs.Layout.{Plan, rest_of}
 use Rattle.carrier_model.specs.Totals.{capped}
 use Rattle.cfb_writer.specs.Numbered.{plan_seen, IsSmall}
 use Rattle.cfb_writer.specs.declared.parts.Measure.{Measure}
-use Rattle.cfb_writer.specs.declared.parts.Parts.{Parts}
+use Rattle.cfb_writer.specs.declared.parts.WideSectorCounts.{WideSectorCounts}
 use Rattle.cfb_writer.specs.declared.totals.Totals.{Totals}
 
 -- the header and all parts
 abbrev pub sectors_in : Plan → ℕ
 sectors_in p = 1 + (p.fat + p.difat + rest_of p.sizes)
 
-abbrev pub parts_seen : Parts → Plan
+abbrev pub parts_seen : WideSectorCounts → Plan
 parts_seen n = record {
   sizes = record { directory = n.directory; mini_fat = n.mini_fat; mini_sectors = n.mini_sectors; mini_stream = n.mini_stream; long = n.long };
   fat = n.fat;

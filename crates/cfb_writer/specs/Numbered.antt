@@ -2,9 +2,9 @@
 use Rattle.std.specs.Prelude.{◌≡◌, ℕ, ◌+◌, ◌≤◌, ◌++◌, List, replicate, ◌==◌, if◌then◌else◌}
 use Rattle.carrier_model.specs.Chains.{end_word}
 use Rattle.carrier_model.specs.Layout.{Plan, Slot, plan_of, FAT_SECTOR, DIFAT_SECTOR, run_words, directory_start, mini_fat_start, mini_stream_start}
-use Rattle.cfb_writer.specs.declared.numbers.Numbers.{Numbers}
+use Rattle.cfb_writer.specs.declared.numbers.SectorCounts.{SectorCounts}
 
-abbrev pub plan_seen : Numbers → Plan
+abbrev pub plan_seen : SectorCounts → Plan
 plan_seen n = record {
   sizes = record { directory = n.directory; mini_fat = n.mini_fat; mini_sectors = n.mini_sectors; mini_stream = n.mini_stream; long = n.long };
   fat = n.fat;
@@ -12,7 +12,7 @@ plan_seen n = record {
 }
 
 -- few enough that sums of them are words
-pub record IsSmall (n : Numbers) : Type 0 where
+pub record IsSmall (n : SectorCounts) : Type 0 where
   pub fat : n.fat ≤ 1048576
   pub difat : n.difat ≤ 1048576
   pub directory : n.directory ≤ 1048576

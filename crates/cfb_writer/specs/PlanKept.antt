@@ -4,9 +4,9 @@ use Rattle.std.specs.List.{AllByRecursion}
 use Rattle.carrier_model.specs.Layout.{file_bytes}
 use Rattle.cfb_writer.specs.Laid.{Laid, IsShort, others_of, slots_in}
 use Rattle.cfb_writer.specs.Numbered.{plan_seen, IsSmall, IsPlanFor}
-use Rattle.cfb_writer.specs.declared.numbers.Numbers.{Numbers}
+use Rattle.cfb_writer.specs.declared.numbers.SectorCounts.{SectorCounts}
 
-pub record IsPlanned (z : ℕ) (numbers : Numbers) (laid : Laid) (size : ℕ) : Type 0 where
+pub record IsPlanned (z : ℕ) (numbers : SectorCounts) (laid : Laid) (size : ℕ) : Type 0 where
   pub small : IsSmall numbers
   pub plan : IsPlanFor z (plan_seen numbers) (slots_in laid)
   pub short : AllByRecursion IsShort (others_of laid)

@@ -15,7 +15,7 @@ use crate::appending::append_parts;
 use crate::entries::{Entries, Entry};
 use crate::header::start_or_end;
 use crate::links::NO_STREAM;
-use crate::numbers::Numbers;
+use crate::numbers::SectorCounts;
 use crate::runs::END_OF_CHAIN;
 use crate::sizes::{ENTRY, MINI_SECTOR};
 use crate::streams::{Share, pieces_of};
@@ -197,7 +197,7 @@ fn append_entries<B: Blob, W: Sink>(
 /// Appends the root's entry, which tells of the mini stream. [MS-CFB 2.6.2]
 fn append_root<B: Blob, W: Sink>(
     sink: &mut W,
-    numbers: &Numbers,
+    numbers: &SectorCounts,
     entries: &Entries<'_, B>,
 ) -> Result<u16, Failed>
     requires { IsSmall numbers.now }
@@ -231,7 +231,7 @@ fn append_unused<W: Sink>(sink: &mut W, count: u32) -> Result<u16, Failed>
 pub fn append_directory<B: Blob, W: Sink>(
     sink: &mut W,
     version: Version,
-    numbers: &Numbers,
+    numbers: &SectorCounts,
     entries: &Entries<'_, B>,
 ) -> Result<u16, Failed>
     requires small { IsSmall numbers.now }

@@ -6,7 +6,7 @@ ghost use Rattle.carrier_io.specs.Summed.{Sums};
 ghost use Rattle.cfb_writer.specs.Versions.{sector_of};
 
 use crate::appending::append_parts;
-use crate::numbers::Numbers;
+use crate::numbers::SectorCounts;
 use crate::runs::{END_OF_CHAIN, FREE_SECTOR, Run, append_runs};
 use crate::sizes::{CUTOFF, HEADER, HEADER_DIFAT};
 use crate::version::Version;
@@ -35,7 +35,7 @@ fn front(version: Version) -> [u8; 40]
 }
 
 /// The number of the directory's sectors, which only the later version has.
-fn directory_field(version: Version, numbers: &Numbers) -> u32
+fn directory_field(version: Version, numbers: &SectorCounts) -> u32
     ensures { result ≡ layout.directory_field (sector_of version) (plan_seen numbers.now) }
 {
     match version {
@@ -52,7 +52,11 @@ pub fn start_or_end(count: u32, start: u32) -> u32
 }
 
 /// Appends what stands before the header's list of sectors of the FAT.
-fn append_counts<W: Sink>(sink: &mut W, version: Version, numbers: &Numbers) -> Result<u16, Failed>
+fn append_counts<W: Sink>(
+    sink: &mut W,
+    version: Version,
+    numbers: &SectorCounts,
+) -> Result<u16, Failed>
     requires { IsSmall numbers.now }
     ensures { Sums (W.held sink.old) (W.held sink.new) (W.faults sink.old) (W.faults sink.new) result (layout.header_front (sector_of version) ++ layout.header_counts (sector_of version) (plan_seen numbers.now)) }
 {
@@ -77,7 +81,7 @@ fn append_counts<W: Sink>(sink: &mut W, version: Version, numbers: &Numbers) -> 
 pub fn append_header<W: Sink>(
     sink: &mut W,
     version: Version,
-    numbers: &Numbers,
+    numbers: &SectorCounts,
 ) -> Result<u16, Failed>
     requires { IsSmall numbers.now }
     ensures { Sums (W.held sink.old) (W.held sink.new) (W.faults sink.old) (W.faults sink.new) result (layout.header_bytes (sector_of version) (plan_seen numbers.now)) }

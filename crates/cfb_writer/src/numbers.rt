@@ -3,20 +3,26 @@ ghost use Rattle.std.specs.Prelude.{◌≡◌};
 ghost use Rattle.carrier_model.specs.Layout as layout;
 ghost use Rattle.cfb_writer.specs.Numbered.{plan_seen, IsSmall};
 
-/// How many sectors each part has: the FAT, the DIFAT beside the header, the directory, the mini FAT, the mini stream and
-/// the streams with sectors of their own. Of the mini stream also how many mini sectors.
+/// How many sectors each part of a file has, and of the mini stream also how many mini sectors.
 #[derive(Clone, Copy, Debug, PartialEq, Eq)]
-pub struct Numbers {
+pub struct SectorCounts {
+    /// Sectors of the FAT.
     pub fat: u32,
+    /// DIFAT sectors, which list those of the FAT that the header has no room for.
     pub difat: u32,
+    /// Sectors of the directory.
     pub directory: u32,
+    /// Sectors of the mini FAT.
     pub mini_fat: u32,
+    /// Mini sectors, of 64 bytes, of all streams in the mini stream.
     pub mini_sectors: u32,
+    /// Sectors of the mini stream.
     pub mini_stream: u32,
+    /// Sectors of all streams with sectors of their own.
     pub long: u32,
 }
 
-impl Numbers {
+impl SectorCounts {
     /// The number of the first sector of the directory. [MS-CFB 2.6]
     pub fn directory_start(&self) -> u32
         requires { IsSmall self.now }

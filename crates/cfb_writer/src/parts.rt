@@ -7,7 +7,7 @@ ghost use Rattle.cfb_writer.specs.Planned.{planned};
 ghost use Rattle.cfb_writer.specs.Versions.{sector_of};
 
 use crate::fat_count::{difat_count, fat_count};
-use crate::numbers::Numbers;
+use crate::numbers::SectorCounts;
 use crate::sizes::{ENTRY, MINI_SECTOR, WORD};
 use crate::totals::Totals;
 use crate::version::Version;
@@ -27,23 +27,30 @@ const MANY_LONG: u64 = 1 << 55;
 /// The numbers of a file, and how many bytes it has.
 #[derive(Clone, Copy, Debug, PartialEq, Eq)]
 pub struct Measure {
-    pub numbers: Numbers,
+    pub numbers: SectorCounts,
     pub size: u64,
 }
 
-/// How many sectors each part of a file has that may be too large to be written.
+/// The same counts as in `SectorCounts`, of a file that may be too large to be written.
 #[derive(Clone, Copy, Debug, PartialEq, Eq)]
-struct Parts {
+struct WideSectorCounts {
+    /// Sectors of the FAT.
     fat: u64,
+    /// DIFAT sectors.
     difat: u64,
+    /// Sectors of the directory.
     directory: u64,
+    /// Sectors of the mini FAT.
     mini_fat: u64,
+    /// Mini sectors, of 64 bytes.
     mini_sectors: u64,
+    /// Sectors of the mini stream.
     mini_stream: u64,
+    /// Sectors of all streams with sectors of their own.
     long: u64,
 }
 
-impl Parts {
+impl WideSectorCounts {
     /// All sectors, with the header.
     fn all(&self) -> u64
         requires { sectors_in (parts_seen self.now) < 2 ^ 64 }
@@ -54,12 +61,12 @@ impl Parts {
     }
 
     /// The same numbers in fewer bits.
-    fn numbers(&self) -> Numbers
+    fn numbers(&self) -> SectorCounts
         requires sectors { sectors_in (parts_seen self.now) < 2 ^ 32 }
         requires mini { self.now.mini_sectors < 2 ^ 32 }
         ensures { plan_seen result ≡ parts_seen self.now }
     {
-        Numbers {
+        SectorCounts {
             fat: self.fat as u32,
             difat: self.difat as u32,
             directory: self.directory as u32,
@@ -79,7 +86,7 @@ fn can_be_told(totals: Totals) -> bool
 }
 
 /// The sectors of each part, where the bytes of each can be told. [MS-CFB 2.1]
-fn count_parts(version: Version, totals: Totals) -> Parts
+fn count_parts(version: Version, totals: Totals) -> WideSectorCounts
     requires { CanBeTold totals }
     ensures plan { parts_seen result ≡ planned (sector_of version) totals.entries totals.mini totals.long }
     ensures few { sectors_in (parts_seen result) < 2 ^ 63 }
@@ -89,7 +96,7 @@ fn count_parts(version: Version, totals: Totals) -> Parts
     let mini_fat = (WORD * totals.mini).div_ceil(sector);
     let mini_stream = (MINI_SECTOR * totals.mini).div_ceil(sector);
     let fat = fat_count(version, directory + mini_fat + mini_stream + totals.long);
-    Parts {
+    WideSectorCounts {
         fat,
         difat: difat_count(version, fat),
         directory,

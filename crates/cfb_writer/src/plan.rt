@@ -1,6 +1,6 @@
 //! A compound file, planned and written.
 use crate::entries::Entries;
-use crate::numbers::Numbers;
+use crate::numbers::SectorCounts;
 use crate::parts::measured;
 use crate::plan_entries::entries_of;
 use crate::totals::all_totals;
@@ -15,7 +15,7 @@ use std::marker::Model;
 #[derive(Drop)]
 pub struct Plan<'t, B: Blob> {
     version: Version,
-    numbers: Numbers,
+    numbers: SectorCounts,
     entries: Entries<'t, B>,
     size: u64,
 }
@@ -53,7 +53,7 @@ impl<'t, B: Blob> Plan<'t, B> {
     /// A plan of entries, whose parts have so many sectors.
     pub(crate) fn of_parts(
         version: Version,
-        numbers: Numbers,
+        numbers: SectorCounts,
         entries: Entries<'t, B>,
         size: u64,
     ) -> Plan<'t, B>

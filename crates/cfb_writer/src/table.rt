@@ -7,7 +7,7 @@ ghost use Rattle.carrier_io.specs.Summed.{Sums};
 ghost use Rattle.cfb_writer.specs.Versions.{sector_of};
 
 use crate::entries::Entries;
-use crate::numbers::Numbers;
+use crate::numbers::SectorCounts;
 use crate::runs::{END_OF_CHAIN, FREE_SECTOR, Run, append_run, append_runs};
 use crate::sizes::{HEADER_DIFAT, MINI_SECTOR};
 use crate::streams::{Share, append_chains};
@@ -21,7 +21,7 @@ const FAT_SECTOR: u32 = 0xFFFF_FFFD;
 const DIFAT_SECTOR: u32 = 0xFFFF_FFFC;
 
 /// Appends the words of all parts before the streams with sectors of their own.
-fn append_fronts<W: Sink>(sink: &mut W, numbers: &Numbers) -> Result<u16, Failed>
+fn append_fronts<W: Sink>(sink: &mut W, numbers: &SectorCounts) -> Result<u16, Failed>
     requires { IsSmall numbers.now }
     ensures { Sums (W.held sink.old) (W.held sink.new) (W.faults sink.old) (W.faults sink.new) result (layout.words_bytes (front_words (plan_seen numbers.now))) }
 {
@@ -41,7 +41,7 @@ fn append_fronts<W: Sink>(sink: &mut W, numbers: &Numbers) -> Result<u16, Failed
 pub fn append_fat<B: Blob, W: Sink>(
     sink: &mut W,
     version: Version,
-    numbers: &Numbers,
+    numbers: &SectorCounts,
     entries: &Entries<'_, B>,
 ) -> Result<u16, Failed>
     requires small { IsSmall numbers.now }
@@ -69,7 +69,7 @@ pub fn append_fat<B: Blob, W: Sink>(
 pub fn append_mini_fat<B: Blob, W: Sink>(
     sink: &mut W,
     version: Version,
-    numbers: &Numbers,
+    numbers: &SectorCounts,
     entries: &Entries<'_, B>,
 ) -> Result<u16, Failed>
     requires small { IsSmall numbers.now }
@@ -83,7 +83,7 @@ pub fn append_mini_fat<B: Blob, W: Sink>(
 }
 
 /// The word that names the DIFAT sector behind the k-th.
-fn difat_behind(numbers: &Numbers, k: u32) -> u32
+fn difat_behind(numbers: &SectorCounts, k: u32) -> u32
     requires small { IsSmall numbers.now }
     requires place { k < numbers.now.difat }
     ensures { result ≡ next_list (plan_seen numbers.now) k }
@@ -99,7 +99,7 @@ fn difat_behind(numbers: &Numbers, k: u32) -> u32
 fn append_difat_sector<W: Sink>(
     sink: &mut W,
     version: Version,
-    numbers: &Numbers,
+    numbers: &SectorCounts,
     k: u32,
 ) -> Result<u16, Failed>
     requires small { IsSmall numbers.now }
@@ -124,7 +124,7 @@ fn append_difat_sector<W: Sink>(
 pub fn append_difat<W: Sink>(
     sink: &mut W,
     version: Version,
-    numbers: &Numbers,
+    numbers: &SectorCounts,
 ) -> Result<u16, Failed>
     requires { IsSmall numbers.now }
     ensures { Sums (W.held sink.old) (W.held sink.new) (W.faults sink.old) (W.faults sink.new) result (layout.difat_bytes (sector_of version) (plan_seen numbers.now)) }

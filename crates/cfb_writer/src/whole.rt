@@ -10,7 +10,7 @@ ghost use Rattle.cfb_writer.specs.Versions.{sector_of};
 use crate::directory::append_directory;
 use crate::entries::Entries;
 use crate::header::append_header;
-use crate::numbers::Numbers;
+use crate::numbers::SectorCounts;
 use crate::sizes::MINI_SECTOR;
 use crate::streams::{Share, append_streams};
 use crate::table::{append_difat, append_fat, append_mini_fat};
@@ -21,7 +21,7 @@ use carrier_io::{Blob, Failed, Sink, append_zeros};
 fn append_tables<B: Blob, W: Sink>(
     sink: &mut W,
     version: Version,
-    numbers: &Numbers,
+    numbers: &SectorCounts,
     entries: &Entries<'_, B>,
 ) -> Result<u16, Failed>
     requires small { IsSmall numbers.now }
@@ -38,7 +38,7 @@ fn append_tables<B: Blob, W: Sink>(
 fn append_mini_stream<B: Blob, W: Sink>(
     sink: &mut W,
     version: Version,
-    numbers: &Numbers,
+    numbers: &SectorCounts,
     entries: &Entries<'_, B>,
 ) -> Result<u16, Failed>
     requires small { IsSmall numbers.now }
@@ -55,7 +55,7 @@ fn append_mini_stream<B: Blob, W: Sink>(
 fn append_files<B: Blob, W: Sink>(
     sink: &mut W,
     version: Version,
-    numbers: &Numbers,
+    numbers: &SectorCounts,
     entries: &Entries<'_, B>,
 ) -> Result<u16, Failed>
     requires small { IsSmall numbers.now }
@@ -74,7 +74,7 @@ fn append_files<B: Blob, W: Sink>(
 pub fn append_file<B: Blob, W: Sink>(
     sink: &mut W,
     version: Version,
-    numbers: &Numbers,
+    numbers: &SectorCounts,
     entries: &Entries<'_, B>,
 ) -> Result<u16, Failed>
     requires small { IsSmall numbers.now }
