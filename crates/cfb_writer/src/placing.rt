@@ -51,7 +51,7 @@ fn sibling_numbers<B: Blob>(
     requires few { first + entries_in (inside list.now.storages parent) ≤ 2147483648 }
     ensures { IfOk result (λ v. v.items ≡ layout.sibling_numbers first (inside list.now.storages parent)) }
 {
-    let mut numbers = Vec::new(alloc);
+    let mut numbers = Vec::with_capacity(alloc, list.files_in(parent).len())?;
     let mut number = first;
     for file in list.files_in(parent) {
         numbers.push(number)?;

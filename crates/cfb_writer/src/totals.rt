@@ -91,7 +91,7 @@ pub fn all_totals<B: Blob>(
     ensures known { IfOk result (λ v. AreKnown (sector_of version) (inside list.now.storages) 0 v.items) }
 {
     let count = list.count();
-    let mut totals = Vec::new(alloc);
+    let mut totals = Vec::with_capacity(alloc, count)?;
     totals.resize(count, NOTHING)?;
     for done in 0..count {
         let parent = count - 1 - done;
