@@ -17,6 +17,7 @@ ghost use Rattle.prop_values.specs.Arrivals.{AreDifferent};
 
 use crate::entries::Entry;
 use crate::items::{Item, read_item};
+use crate::lists::{ENTRY, PROPERTIES, head_size};
 use crate::tags::Tags;
 use carrier_io::{Blob, Fault, Passed, PassedList, Reason, Stop};
 use cfb_directory::{Files, StorageId};
@@ -24,12 +25,6 @@ use cfb_sectors::StreamView;
 use msg_nameid::NameMap;
 use prop_values::{Arrivals, Part, Props, SettleEnd};
 use std::alloc::Global;
-
-/// The name of the stream of a list. [MS-OXMSG 2.4]
-const PROPERTIES: &str = "__properties_version1.0";
-
-/// The bytes of an entry. [MS-OXMSG 2.4.2]
-const ENTRY: usize = 16;
 
 /// The property list of a storage, and where the entry 3701000D of an attachment lies in the file, if it has one.
 /// [MS-OXMSG 2.4]
@@ -100,18 +95,6 @@ impl<'a> Draft<'a> {
             }
         }
         Ok(())
-    }
-}
-
-/// The bytes of the head of a list. [MS-OXMSG 2.4.1]
-fn head_size(part: Part) -> usize
-    ensures { result ≡ lists.head_size (part_of part) }
-{
-    match part {
-        Part::Top => 32,
-        Part::Embedded => 24,
-        Part::Recipient => 8,
-        Part::Attachment => 8,
     }
 }
 

@@ -5,13 +5,13 @@ ghost use Rattle.carrier_model.specs.Bytes as octets;
 ghost use Rattle.carrier_model.specs.Keys as keys;
 ghost use Rattle.carrier_model.specs.Kinds.{comes_before_object};
 ghost use Rattle.carrier_model.specs.Values as plain;
-ghost use Rattle.msg_model.specs.MsgProps as model;
 ghost use Rattle.msg_model.specs.WrittenMsg as written;
-ghost use Rattle.msg_props.specs.Heads.{head_at, head_bytes};
+ghost use Rattle.msg_props.specs.Heads.{head_bytes};
 ghost use Rattle.msg_props.specs.Tagged.{tagged_entry, tagged_range};
 ghost use Rattle.prop_values.specs.Kinds.{kind_number};
 ghost use Rattle.prop_values.specs.Meaning.{value_of};
 
+use crate::lists::{ENTRY, head_size};
 use crate::write_values::{length_size, width_of_one};
 use crate::writing::Head;
 use carrier_io::{Blob, NoMemory, le32, le64};
@@ -133,18 +133,6 @@ fn append_entries<B: Blob>(
     }
 }
 
-/// The bytes of a head.
-fn head_size(part: Part) -> usize
-    ensures { result ≡ length (head_at part 0 0) }
-{
-    match part {
-        Part::Top => 32,
-        Part::Embedded => 24,
-        Part::Recipient => 8,
-        Part::Attachment => 8,
-    }
-}
-
 /// Appends the next numbers of recipients and attachments, and how many there are.
 fn append_counts(out: &mut Vec<u8>, recipients: u32, attachments: u32) -> Result<(), NoMemory>
     ensures { OnOk result (out.new.items ≡ out.old.items ++ (octets.le32 recipients ++ (octets.le32 attachments ++ (octets.le32 recipients ++ octets.le32 attachments)))) }
@@ -186,7 +174,7 @@ pub fn property_stream<B: Blob>(
 {
     let count = props.len().saturating_add(usize::from(object.is_some()));
     let room = count
-        .saturating_mul(16)
+        .saturating_mul(ENTRY)
         .saturating_add(head_size(head.part));
     let mut out = Vec::with_capacity(alloc, room)?;
     append_head(&mut out, head)?;

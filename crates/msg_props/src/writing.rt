@@ -6,6 +6,7 @@ ghost use Rattle.msg_model.specs.WrittenMsg.{list_files};
 ghost use Rattle.msg_nameid.specs.Maps.{IsAssigned, names_in};
 ghost use Rattle.msg_props.specs.Heads.{head_bytes};
 
+use crate::lists::PROPERTIES;
 use crate::write_entries::property_stream;
 use crate::write_streams::add_values;
 use crate::write_tags::tags_of;
@@ -43,6 +44,6 @@ pub fn add_props<'t, B: Blob>(
 {
     let tags = tags_of(alloc, props, names)?;
     let stream = property_stream(alloc, head, props, &tags, object)?;
-    files.add_stream(at, "__properties_version1.0", Content::Own(stream))?;
+    files.add_stream(at, PROPERTIES, Content::Own(stream))?;
     add_values(alloc, files, at, props, &tags)
 }
