@@ -1,4 +1,5 @@
 pub mod AddedFiles
+pub mod AsciiNames
 pub mod AssignedLaws
 pub mod DraftLaws
 pub mod GatheredLaws

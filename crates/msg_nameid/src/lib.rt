@@ -10,7 +10,9 @@ mod order;
 mod reading;
 mod sets;
 mod slots;
+mod stream_names;
 mod texts;
 mod writing;
 
 pub use map::NameMap;
+pub use stream_names::{text_of, value_name};

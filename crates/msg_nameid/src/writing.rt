@@ -1,9 +1,9 @@
 //! The storage of a name map, written.
-ghost use Rattle.std.specs.Prelude.{◌≡◌, ◌<◌, ◌≤◌, [], ◌∷◌, ◌++◌, length, filter, IfOk, OnOk};
+ghost use Rattle.std.specs.Prelude.{◌≡◌, ◌<◌, ◌≤◌, [], ◌∷◌, length, filter, IfOk, OnOk};
 ghost use Rattle.carrier_model.specs.FileTrees.{storage, no_file, streams_from, NO_CLASS};
 ghost use Rattle.cfb_list.specs.Grown.{grown};
 ghost use Rattle.cfb_list.specs.Listed as listed;
-ghost use Rattle.msg_model.specs.StreamNames.{NAME_MAP, value_name};
+ghost use Rattle.msg_model.specs.StreamNames as plain;
 ghost use Rattle.msg_model.specs.WrittenNames.{has_bytes, name_map_files};
 ghost use Rattle.msg_nameid.specs.Gathered.{nothing, gathered, hash_files, files_gathered};
 ghost use Rattle.msg_nameid.specs.Maps.{IsAssigned, names_in};
@@ -11,9 +11,9 @@ ghost use Rattle.msg_nameid.specs.Maps.{IsAssigned, names_in};
 use crate::gathering::Streams;
 use crate::hashes::Hashes;
 use crate::map::NameMap;
+use crate::stream_names::{text_of, value_name};
 use carrier_io::{Blob, NoMemory};
 use cfb_list::{Content, FileList};
-use prop_names::upper_digits8;
 use std::alloc::Global;
 
 impl NameMap {
@@ -25,7 +25,7 @@ impl NameMap {
         files: &mut FileList<'t, B>,
     ) -> Result<(), NoMemory>
         requires assigned { IsAssigned self.now }
-        ensures { OnOk result (files.new ≡ record files.old { storages = grown files.old.storages 0 (storage NAME_MAP NO_CLASS (name_map_files (names_in self.now)) no_file) }) }
+        ensures { OnOk result (files.new ≡ record files.old { storages = grown files.old.storages 0 (storage plain.NAME_MAP NO_CLASS (name_map_files (names_in self.now)) no_file) }) }
     {
         let count = files.count();
         prove!(count > 0);
@@ -55,19 +55,18 @@ fn add_gathered<'t, B: Blob>(
     streams: Streams,
 ) -> Result<(), NoMemory>
     requires { 0 < length files.old.storages }
-    ensures { OnOk result (files.new ≡ record files.old { storages = grown files.old.storages 0 (storage NAME_MAP NO_CLASS (files_gathered streams) no_file) }) }
+    ensures { OnOk result (files.new ≡ record files.old { storages = grown files.old.storages 0 (storage plain.NAME_MAP NO_CLASS (files_gathered streams) no_file) }) }
 {
     let at = files.add_storage(0, "__nameid_version1.0")?;
     let guids = streams.sets.bytes(alloc)?;
-    add_stream(alloc, files, at, 0x0002_0102, guids)?;
-    add_stream(alloc, files, at, 0x0003_0102, streams.entries)?;
-    add_stream(alloc, files, at, 0x0004_0102, streams.texts)?;
-    add_hashes(alloc, files, at, streams.hashes)
+    add_stream(files, at, 0x0002_0102, guids)?;
+    add_stream(files, at, 0x0003_0102, streams.entries)?;
+    add_stream(files, at, 0x0004_0102, streams.texts)?;
+    add_hashes(files, at, streams.hashes)
 }
 
 /// Adds the hash streams that are not empty. [MS-OXMSG 2.2.3.2]
 fn add_hashes<'t, B: Blob>(
-    alloc: Global,
     files: &mut FileList<'t, B>,
     at: usize,
     hashes: Hashes,
@@ -77,7 +76,7 @@ fn add_hashes<'t, B: Blob>(
 {
     let mut tag = 0x1000_0102;
     for bytes in hashes.streams {
-        add_filled(alloc, files, at, tag, bytes)?;
+        add_filled(files, at, tag, bytes)?;
         tag += 0x1_0000;
     }
     Ok(())
@@ -85,52 +84,30 @@ fn add_hashes<'t, B: Blob>(
 
 /// Adds the stream that is named by a tag, unless it is empty.
 fn add_filled<'t, B: Blob>(
-    alloc: Global,
     files: &mut FileList<'t, B>,
     at: usize,
     tag: u32,
     bytes: Vec<u8>,
 ) -> Result<(), NoMemory>
     requires { at < length files.old.storages }
-    ensures { OnOk result (files.new ≡ record files.old { storages = grown files.old.storages at (streams_from (filter has_bytes ((value_name tag, bytes.items) ∷ []))) }) }
+    ensures { OnOk result (files.new ≡ record files.old { storages = grown files.old.storages at (streams_from (filter has_bytes ((plain.value_name tag, bytes.items) ∷ []))) }) }
 {
     if bytes.is_empty() {
         return Ok(());
     }
-    add_stream(alloc, files, at, tag, bytes)
+    add_stream(files, at, tag, bytes)
 }
 
 /// Adds the stream that is named by a tag.
 fn add_stream<'t, B: Blob>(
-    alloc: Global,
     files: &mut FileList<'t, B>,
     at: usize,
     tag: u32,
     bytes: Vec<u8>,
 ) -> Result<(), NoMemory>
     requires { at < length files.old.storages }
-    ensures { OnOk result (files.new ≡ record files.old { storages = listed.with_child files.old.storages at (listed.stream (value_name tag) bytes.items) }) }
+    ensures { OnOk result (files.new ≡ record files.old { storages = listed.with_child files.old.storages at (listed.stream (plain.value_name tag) bytes.items) }) }
 {
-    let name = stream_name(alloc, tag)?;
-    files.add_named_stream(at, &name, Content::Own(bytes))
-}
-
-/// The units of the name of the stream that is named by a tag. [MS-OXMSG 2.1.3]
-fn stream_name(alloc: Global, tag: u32) -> Result<Vec<u16>, NoMemory>
-    ensures { IfOk result (λ units. units.items ≡ value_name tag) }
-{
-    let mut units = Vec::new(alloc);
-    push_ascii(&mut units, b"__substg1.0_")?;
-    push_ascii(&mut units, &upper_digits8(tag))?;
-    Ok(units)
-}
-
-/// Puts the units of ASCII characters behind others.
-fn push_ascii(units: &mut Vec<u16>, text: &[u8]) -> Result<(), NoMemory>
-    ensures { OnOk result (units.new.items ≡ units.old.items ++ text.now) }
-{
-    for byte in text {
-        units.push(u16::from(*byte))?;
-    }
-    Ok(())
+    let name = value_name(tag);
+    files.add_stream(at, text_of(&name), Content::Own(bytes))
 }

@@ -14,11 +14,12 @@ ghost use Rattle.prop_values.specs.Shapes.{HasShape};
 
 use crate::elements::parts_value;
 use crate::entries::Entry;
-use crate::stream_names::{bad_element, stream_of, value_name};
+use crate::stream_names::{bad_element, stream_of};
 use crate::values::{bytes_value, fits, guid_value, guids_value, is_empty_size, numbers_value};
 use carrier_io::{Blob, Fault, Reason, Stop};
 use cfb_directory::{Files, StorageId};
 use cfb_sectors::StreamView;
+use msg_nameid::value_name;
 use prop_values::{Kind, Shape, Value};
 use std::alloc::Global;
 

@@ -2,7 +2,6 @@
 ghost use Rattle.std.specs.Prelude.{◌≡◌, is_some, true};
 ghost use Rattle.std.specs.Option.{option_map};
 ghost use Rattle.std.specs.Str.{IsAscii};
-ghost use Rattle.std.specs.String.{IsUtf16Of};
 ghost use Rattle.carrier_io.specs.Reasons.{fault_of};
 ghost use Rattle.carrier_model.specs.Lookups.{size_place_at};
 ghost use Rattle.carrier_model.specs.Reasons.{BAD_ELEMENT};
@@ -14,37 +13,17 @@ ghost use Rattle.msg_props.specs.Entries.{streams_in};
 use carrier_io::{Fault, Reason};
 use cfb_directory::{Files, StorageId};
 use cfb_sectors::StreamView;
+use msg_nameid::{text_of, value_name};
 use prop_names::upper_digits8;
-use std::str;
-
-/// The name of the stream of a tag. [MS-OXMSG 2.1.3]
-pub fn value_name(tag: u32) -> [u8; 20]
-    ensures { result ≡ plain.value_name tag }
-{
-    let mut name = *b"__substg1.0_00000000";
-    name[12..].copy_from_slice(&upper_digits8(tag));
-    name
-}
 
 /// The name of the stream of an element of a multiple value. [MS-OXMSG 2.1.4]
 pub fn element_name(tag: u32, k: u32) -> [u8; 29]
     ensures { result ≡ plain.element_name tag k }
 {
-    let mut name = *b"__substg1.0_00000000-00000000";
-    name[12..20].copy_from_slice(&upper_digits8(tag));
+    let mut name = [b'-'; 29];
+    name[..20].copy_from_slice(&value_name(tag));
     name[21..].copy_from_slice(&upper_digits8(k));
     name
-}
-
-/// The text of ASCII characters.
-fn text_of(name: &[u8]) -> &str
-    requires { IsAscii name.now }
-    ensures { IsUtf16Of name.now result.now }
-{
-    match str::from_utf8(name) {
-        Ok(text) => text,
-        Err(_) => unreachable!(),
-    }
 }
 
 /// The stream of a name in a storage. [MS-CFB 2.6.4]
