@@ -9,6 +9,7 @@ mod Messages
 mod Parts
 mod Rows
 mod Sorting
+mod StorageNames
 mod Turned
 mod Unrolled
 mod WholeFiles

@@ -14,6 +14,7 @@ ghost use Rattle.msg_storage.specs.Levels.{attachments_in, inner_at, recipients_
 ghost use Rattle.msg_tree.specs.Meaning.{attached_of, body_of, list_of, tree_of};
 ghost use Rattle.msg_tree.specs.Whole.{meaning_in};
 
+use crate::names::{ATTACHMENT, OBJECT, RECIPIENT};
 use crate::storages::storages_in;
 use carrier_io::{Fault, PassedList, Reason, Stop};
 use cfb_directory::{Files, StorageId};
@@ -27,15 +28,6 @@ use std::alloc::Global;
 
 /// How many levels of messages may lie in a message.
 const GREATEST_LEVEL: u32 = 32;
-
-/// What the name of a recipient's storage begins with.
-const RECIPIENT: &[u8] = b"__recip_version1.0_#";
-
-/// What the name of an attachment's storage begins with.
-const ATTACHMENT: &[u8] = b"__attach_version1.0_#";
-
-/// The storage of what an attachment holds.
-const OBJECT: &str = "__substg1.0_3701000D";
 
 /// The stream that makes a storage a message.
 const PROPERTIES: &str = "__properties_version1.0";

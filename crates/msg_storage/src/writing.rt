@@ -7,7 +7,6 @@ ghost use Rattle.carrier_model.specs.Tree as tree;
 ghost use Rattle.carrier_model.specs.Tree.{names_of};
 ghost use Rattle.cfb_list.specs.Grown.{grown};
 ghost use Rattle.msg_model.specs.ReadBack.{BodyHasFewParts, HasFewParts};
-ghost use Rattle.msg_model.specs.StreamNames as spelled;
 ghost use Rattle.msg_model.specs.WrittenMsg as plain;
 ghost use Rattle.msg_nameid.specs.Maps.{IsAssigned, names_in};
 ghost use Rattle.msg_props.specs.Heads.{head_at};
@@ -16,62 +15,22 @@ ghost use Rattle.msg_tree.specs.Keeping.{BodyHasStores, HasStores};
 ghost use Rattle.msg_tree.specs.Meaning.{attached_of, body_of, tree_of};
 ghost use Rattle.msg_tree.specs.Whole.{plain_of};
 
+use crate::names::{OBJECT, attachment_name, object_units, recipient_name};
 use carrier_io::{Blob, NoMemory};
 use cfb_list::{FileList, grown_lists_are_trees};
-use msg_nameid::NameMap;
+use msg_nameid::{NameMap, text_of};
 use msg_props::{Head, add_props};
 use msg_tree::{Attachment, Body, Message, Recipients, Tree};
 use ole_stores::add_store;
-use prop_names::{NameSet, upper_digits8};
+use prop_names::NameSet;
 use prop_values::{Part, Props};
 use std::alloc::Global;
-
-/// What the name of a recipient's storage begins with.
-const RECIPIENT: &[u8] = b"__recip_version1.0_#";
-
-/// What the name of an attachment's storage begins with.
-const ATTACHMENT: &[u8] = b"__attach_version1.0_#";
-
-/// The storage of what an attachment holds.
-const OBJECT: &[u8] = b"__substg1.0_3701000D";
 
 /// The reserved word of the entry of an attachment's message.
 const MESSAGE_WORD: u32 = 1;
 
 /// That of the entry of an attachment's store.
 const STORE_WORD: u32 = 4;
-
-/// No class.
-const NO_CLASS: [u8; 16] = [0; 16];
-
-/// Appends a unit for each of some ASCII characters.
-fn append_units(units: &mut Vec<u16>, text: &[u8]) -> Result<(), NoMemory>
-    ensures { OnOk result (units.new.items ≡ units.old.items ++ text.now) }
-{
-    for byte in text {
-        units.push(u16::from(*byte))?;
-    }
-    Ok(())
-}
-
-/// A name that ends with a number of eight digits.
-fn numbered_name(alloc: Global, front: &[u8], number: u32) -> Result<Vec<u16>, NoMemory>
-    ensures { IfOk result (λ units. units.items ≡ spelled.numbered_name front.now number) }
-{
-    let mut units = Vec::new(alloc);
-    append_units(&mut units, front)?;
-    append_units(&mut units, &upper_digits8(number))?;
-    Ok(units)
-}
-
-/// The name of the storage of what an attachment holds.
-fn object_name(alloc: Global) -> Result<Vec<u16>, NoMemory>
-    ensures { IfOk result (λ units. units.items ≡ spelled.value_name plain.OBJECT_TAG) }
-{
-    let mut units = Vec::new(alloc);
-    append_units(&mut units, OBJECT)?;
-    Ok(units)
-}
 
 /// Whose list that of a message is.
 fn part_of(top: bool) -> Part
@@ -116,8 +75,8 @@ fn add_recipient<'t, B: Blob>(
     requires known { Known (names_in names.now) (tree.names_in_props props.now) }
     ensures { OnOk result (Adds files.old files.new at (recipient_tree (names_in names.now) number props.now)) }
 {
-    let name = numbered_name(alloc, RECIPIENT, number)?;
-    let storage = files.add_named_storage(at, &name, NO_CLASS)?;
+    let name = recipient_name(number);
+    let storage = files.add_storage(at, text_of(&name))?;
     let head = small_head(Part::Recipient);
     add_props(alloc, files, storage, head, props, None, names)
 }
@@ -210,8 +169,8 @@ fn add_attachment<'t, B: Blob>(
     requires stores { BodyHasStores (attached_of B.bytes attachment.now).1 }
     ensures { OnOk result (Adds files.old files.new at (attachment_tree (names_in names.now) number (attached_of B.bytes attachment.now))) }
 {
-    let name = numbered_name(alloc, ATTACHMENT, number)?;
-    let storage = files.add_named_storage(at, &name, NO_CLASS)?;
+    let name = attachment_name(number);
+    let storage = files.add_storage(at, text_of(&name))?;
     add_attached(alloc, files, storage, attachment, names)
 }
 
@@ -257,12 +216,11 @@ fn add_body<'t, B: Blob>(
     match body {
         Body::Plain => Ok(()),
         Body::Message(inner) => {
-            let name = object_name(alloc)?;
-            let storage = files.add_named_storage(at, &name, NO_CLASS)?;
+            let storage = files.add_storage(at, OBJECT)?;
             add_message(alloc, files, storage, false, inner, names)
         }
         Body::Store(store) => {
-            let name = object_name(alloc)?;
+            let name = object_units(alloc)?;
             let storage = files.add_named_storage(at, &name, store.class())?;
             add_store(files, storage, store)
         }

@@ -1,6 +1,7 @@
 use Rattle.std.proofs.Common.{◌≡◌, None, ap, arith, false, length, subst, sym, take, take_all, ◌∙◌}
 use Rattle.std.specs.Prelude.{OnOk}
-use Rattle.carrier_model.specs.FileTrees.{FileTree, and_files, no_file, storage, NO_CLASS}
+use Rattle.std.specs.Str.{IsAscii}
+use Rattle.carrier_model.specs.FileTrees.{FileTree, and_files, NO_CLASS}
 use Rattle.carrier_model.specs.Tree as plain
 use Rattle.carrier_model.specs.Tree.{Attached, attachments_from, depth_of_body}
 use Rattle.carrier_model.proofs.Trees.{depth_at_le}
@@ -13,11 +14,15 @@ use Rattle.msg_storage.specs.Written.{Adds, attachment_tree}
 use Rattle.msg_storage.proofs.Adding.{adds_two, adds_within, attachment_few, attachment_known, attachment_stores, attachments_taken, told_storage}
 use Rattle.msg_storage.proofs.Bodies.{message_made}
 use Rattle.msg_storage.proofs.Parts.{attachment_named, below_named, body_is, body_named, depth_below, few_attachments, few_below, files_told, recipients_named, stores_below}
+use Rattle.msg_storage.proofs.StorageNames.{attachment_ascii}
 use Rattle.msg_tree.specs.Keeping.{BodyHasStores}
 use Rattle.msg_tree.specs.Meaning.{attached_of, body_of, list_of, tree_of}
 use Rattle.msg_tree.specs.declared.messages.Attachment.{out-Attachment}
 use Rattle.msg_tree.specs.declared.messages.Message.{out-Message}
 use Rattle.msg_storage.proofs.writing.+adding.Goals as goal
+
+pub add_attachment-text_of-requires : goal.add_attachment-text_of-requires
+add_attachment-text_of-requires g t c = subst IsAscii (sym c.attachment_name-name.ensures) (attachment_ascii c.args.number)
 
 pub add_attached-add_props-requires-clause-named : goal.add_attached-add_props-requires-clause-named
 add_attached-add_props-requires-clause-named g t c = attachment_named g.B.Blob.bytes c.args.attachment.now (names_in c.args.names.now) c.requires.known
@@ -96,12 +101,10 @@ pub add_body-returns-in_ok-storage-in-Message : goal.add_body-returns-in_ok-stor
 add_body-returns-in_ok-storage-in-Message g t c =
     let names = names_in c.args.names.now in
     let old = c.args.files.now in
-    let mid = c.add_named_storage.new.self in
+    let mid = c.add_storage.new.self in
     let new = c.add_message.new.files in
-    let m = tree_of g.B.Blob.bytes c.deref-in-Message.result.now in
+    let m = tree_of g.B.Blob.bytes c.deref.result.now in
     let inside : FileTree = message_files names false m in
-    let is : body_of g.B.Blob.bytes c.args.body.now ≡ plain.embedded m = ap (body_of g.B.Blob.bytes) c.in-Message.is ∙ message_made g.B.Blob.bytes c.in-Message.inner ∙ ap (λ x. plain.embedded (tree_of g.B.Blob.bytes x)) (sym c.deref-in-Message.ensures) in
-    let name : c.deref.result.now ≡ value_name OBJECT_TAG = c.deref.ensures.value ∙ c.in_ok-name-in-Message.ensures in
-    let all = told_storage c.add_message.result old mid new c.args.at c.in_ok-storage-in-Message.storage c.deref.result.now NO_CLASS inside c.in_ok-storage-in-Message.ensures.number c.in_ok-storage-in-Message.ensures.ok c.add_message.ensures in
-    subst (λ b. OnOk c.add_message.result (Adds old new c.args.at (body_files names b))) (sym is)
-    (subst (λ n. OnOk c.add_message.result (Adds old new c.args.at (storage n NO_CLASS inside no_file))) name all)
+    let is : body_of g.B.Blob.bytes c.args.body.now ≡ plain.embedded m = ap (body_of g.B.Blob.bytes) c.in-Message.is ∙ message_made g.B.Blob.bytes c.in-Message.inner ∙ ap (λ x. plain.embedded (tree_of g.B.Blob.bytes x)) (sym c.deref.ensures) in
+    let all = told_storage c.add_message.result old mid new c.args.at c.in_ok-storage-in-Message.storage (value_name OBJECT_TAG) NO_CLASS inside c.in_ok-storage-in-Message.ensures.number c.in_ok-storage-in-Message.ensures.ok c.add_message.ensures in
+    subst (λ b. OnOk c.add_message.result (Adds old new c.args.at (body_files names b))) (sym is) all
