@@ -14,8 +14,9 @@ ghost use Rattle.prop_values.specs.Kinds.{kind_number};
 ghost use Rattle.prop_values.specs.Shapes.{HasShape};
 
 use crate::entries::Entry;
+use crate::lengths::length_width;
 use crate::stream_names::{bad_element, element_name, stream_of};
-use crate::values::{fits_bytes, is_empty_size, size_step};
+use crate::values::{fits_bytes, is_empty_size};
 use carrier_io::{Blob, Fault, NoMemory, Reason, Stop};
 use cfb_directory::{Files, StorageId};
 use cfb_sectors::StreamView;
@@ -77,16 +78,18 @@ fn elements<'a>(
     files: &Files<'a>,
     at: StorageId,
     entry: &Entry,
+    kind: Kind,
     single: Kind,
     sizes: &StreamView<'a>,
 ) -> Result<Parts<StreamView<'a>>, Stop>
     requires there { IsThere files.now at }
-    requires single { HasShape (kind_in (entry_of entry.now)) (Shape.Parts single) }
+    requires kind { kind_number kind ≡ kind_in (entry_of entry.now) }
+    requires shape { HasShape (kind_number kind) (Shape.Parts single) }
     ensures list { Gives (λ p. p) result (parts_of (kind_number single) entry.now.place (elements_of (streams_in files.now at) entry.now.tag (bytes_of sizes.now))) }
     ensures fit { IfOk result (λ p. All (plain.IsBytes (kind_number single)) p) }
     ensures few { IfOk result (λ p. length p < 0x1000_0000) }
 {
-    let step = size_step(single);
+    let step = length_width(kind);
     let mut list = Parts::new(alloc);
     let mut missing = false;
     for k in 0..sizes.len() / step {
@@ -121,6 +124,6 @@ pub fn parts_value<'a>(
     ensures value { Gives seen result (mapped (plain.parts (kind_number kind)) (parts_of (kind_number single) entry.now.place (elements_of (streams_in files.now at) entry.now.tag (bytes_of sizes.now)))) }
     ensures valid { IfOk result (λ v. plain.IsValue (seen v)) }
 {
-    let list = elements(alloc, files, at, entry, single, sizes)?;
+    let list = elements(alloc, files, at, entry, kind, single, sizes)?;
     Ok(Value::Parts { kind, list })
 }

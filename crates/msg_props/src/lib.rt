@@ -4,6 +4,7 @@
 mod elements;
 mod entries;
 mod items;
+mod lengths;
 mod lists;
 mod reading;
 mod single_numbers;

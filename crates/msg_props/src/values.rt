@@ -1,14 +1,15 @@
 //! Values in streams.
-ghost use Rattle.std.specs.Prelude.{◌≡◌, ◌⊎◌, ◌<◌, ◌*◌, ◌^◌, ℕ, IfOk, All, true, false, length, map};
+ghost use Rattle.std.specs.Prelude.{◌≡◌, ◌<◌, ◌*◌, ◌^◌, IfOk, All, true, false, length, map};
 ghost use Rattle.carrier_model.specs.Bytes.{le_number};
 ghost use Rattle.carrier_model.specs.Kinds.{is_number_kind};
 ghost use Rattle.carrier_model.specs.Values as plain;
 ghost use Rattle.cfb_sectors.specs.Seen.{bytes_of};
-ghost use Rattle.msg_model.specs.MsgValues.{fits_kind, means_empty, pieces_of, step_of};
+ghost use Rattle.msg_model.specs.MsgValues.{fits_kind, means_empty, pieces_of};
 ghost use Rattle.msg_props.specs.Entries.{seen};
 ghost use Rattle.prop_values.specs.Kinds.{kind_number};
 ghost use Rattle.prop_values.specs.Shapes.{HasShape, IsWidth};
 
+use crate::lengths::length_width;
 use crate::single_numbers::number_at;
 use carrier_io::{Blob, NoMemory, Numbers};
 use cfb_sectors::StreamView;
@@ -27,18 +28,6 @@ pub fn fits_bytes(kind: Kind, len: usize) -> bool
     }
 }
 
-/// The bytes of one element in the stream of several texts: its size, and of a binary four more. [MS-OXMSG 2.1.4]
-pub fn size_step(single: Kind) -> usize
-    requires { plain.is_bytes_kind (kind_number single) ≡ true }
-    ensures step { (kind : ℕ) → HasShape kind (Shape.Parts single) → result ≡ step_of kind }
-    ensures width { (result ≡ 4) ⊎ (result ≡ 8) }
-{
-    match single {
-        Kind::Binary => 8,
-        _ => 4,
-    }
-}
-
 /// Whether the stream of a kind may have so many bytes: of a GUID 16, of a String an even number, and of several values
 /// whole elements. [MS-OXMSG 2.1.3, 2.1.4]
 pub fn fits(kind: Kind, shape: Shape, len: usize) -> bool
@@ -52,7 +41,7 @@ pub fn fits(kind: Kind, shape: Shape, len: usize) -> bool
         Shape::Bytes => fits_bytes(kind, len),
         Shape::Numbers(width) => len % width == 0,
         Shape::Guids => len % 16 == 0,
-        Shape::Parts(single) => len % size_step(single) == 0,
+        Shape::Parts(_) => len % length_width(kind) == 0,
     }
 }
 

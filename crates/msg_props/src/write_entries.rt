@@ -1,6 +1,5 @@
 //! The stream of a list's entries.
-ghost use Rattle.std.specs.Prelude.{◌≡◌, ◌<◌, ◌≤◌, ◌^◌, ◌-◌, ◌==◌, ◌++◌, length, drop, filter, not, take, zip, flat_map, map, List, IfOk, OnOk, if◌then◌else◌};
-ghost use Rattle.std.specs.Int.{w64, to_le_bytes};
+ghost use Rattle.std.specs.Prelude.{◌≡◌, ◌<◌, ◌≤◌, ◌^◌, ◌-◌, ◌++◌, length, drop, filter, not, take, flat_map, map, List, IfOk, OnOk};
 ghost use Rattle.carrier_model.specs.Bytes as octets;
 ghost use Rattle.carrier_model.specs.Keys as keys;
 ghost use Rattle.carrier_model.specs.Kinds.{comes_before_object};
@@ -8,13 +7,13 @@ ghost use Rattle.carrier_model.specs.Values as plain;
 ghost use Rattle.msg_model.specs.WrittenMsg as written;
 ghost use Rattle.msg_props.specs.Heads.{head_bytes};
 ghost use Rattle.msg_props.specs.Tagged.{tagged_entry, tagged_range};
-ghost use Rattle.prop_values.specs.Kinds.{kind_number};
 ghost use Rattle.prop_values.specs.Meaning.{value_of};
 
+use crate::lengths::length_width;
 use crate::lists::{ENTRY, head_size};
-use crate::write_values::{length_size, width_of_one};
+use crate::write_values::{width_of_one, words};
 use crate::writing::Head;
-use carrier_io::{Blob, NoMemory, le32, le64};
+use carrier_io::{Blob, NoMemory, le64};
 use prop_names::Key;
 use prop_values::{Part, Prop, Props, Value};
 use std::alloc::Global;
@@ -28,15 +27,6 @@ const OBJECT_TAG: u32 = 0x3701_000d;
 
 /// Readable and writable.
 const FLAGS: u32 = 6;
-
-/// Two words in eight bytes.
-fn words(low: u32, high: u32) -> [u8; 8]
-    ensures { result ≡ octets.le32 low ++ octets.le32 high }
-{
-    let a = le32(low);
-    let b = le32(high);
-    [a[0], a[1], a[2], a[3], b[0], b[1], b[2], b[3]]
-}
 
 /// A size and a reserved word of zero.
 fn sized(size: usize) -> [u8; 8]
@@ -57,7 +47,7 @@ fn value_field<B: Blob>(value: &Value<B>) -> [u8; 8]
         Value::Bytes { kind, bytes } => sized(bytes.len() + kind.null_size()),
         Value::Numbers { kind, list } => sized(list.len() * width_of_one(*kind)),
         Value::Guids(list) => sized(16 * list.len()),
-        Value::Parts { kind, list } => sized(list.len() * length_size(*kind)),
+        Value::Parts { kind, list } => sized(list.len() * length_width(*kind)),
     }
 }
 

@@ -1,5 +1,5 @@
 //! The streams of a list's values.
-ghost use Rattle.std.specs.Prelude.{◌≡◌, ◌<◌, ◌-◌, length, flat_map, zip, OnOk, All};
+ghost use Rattle.std.specs.Prelude.{◌≡◌, ◌<◌, ◌-◌, length, flat_map, zip, OnOk};
 ghost use Rattle.carrier_model.specs.Values as plain;
 ghost use Rattle.msg_model.specs.WrittenMsg.{element_streams, value_streams};
 ghost use Rattle.msg_props.specs.Tagged.{tagged_streams, with_streams};

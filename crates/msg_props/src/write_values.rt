@@ -1,11 +1,12 @@
 //! The bytes of values of several numbers or GUIDs, and the lengths of several texts.
-ghost use Rattle.std.specs.Prelude.{◌≡◌, ◌<◌, ◌≤◌, ◌*◌, ◌-◌, ◌==◌, ◌++◌, ◌^◌, length, flat_map, All, IfOk, OnOk, if◌then◌else◌};
+ghost use Rattle.std.specs.Prelude.{◌≡◌, ◌<◌, ◌*◌, ◌-◌, ◌++◌, length, flat_map, All, IfOk, OnOk};
 ghost use Rattle.carrier_model.specs.Bytes as octets;
 ghost use Rattle.carrier_model.specs.Values as plain;
 ghost use Rattle.msg_model.specs.WrittenMsg.{length_words};
 ghost use Rattle.msg_props.specs.Tagged.{IsSize};
 ghost use Rattle.prop_values.specs.Kinds.{kind_number};
 
+use crate::lengths::length_width;
 use carrier_io::{Blob, NoMemory, Numbers, le32, le64};
 use prop_values::{Guids, Kind, Parts, Shape};
 use std::alloc::Global;
@@ -47,14 +48,13 @@ pub fn guids_bytes(alloc: Global, list: &Guids) -> Result<Vec<u8>, NoMemory>
     Ok(out)
 }
 
-/// The bytes of the length of one of several texts or binaries. [MS-OXMSG 2.1.4]
-pub fn length_size(kind: Kind) -> usize
-    ensures { result ≡ (if kind_number kind == 0x1102 then 8 else 4) }
+/// Two words in eight bytes.
+pub fn words(low: u32, high: u32) -> [u8; 8]
+    ensures { result ≡ octets.le32 low ++ octets.le32 high }
 {
-    match kind {
-        Kind::MultipleBinary => 8,
-        _ => 4,
-    }
+    let a = le32(low);
+    let b = le32(high);
+    [a[0], a[1], a[2], a[3], b[0], b[1], b[2], b[3]]
 }
 
 /// Appends the length of one of several texts, its null counted, or of a binary, with a word of zeros behind it.
@@ -62,13 +62,8 @@ fn append_length<B: Blob>(out: &mut Vec<u8>, kind: Kind, bytes: &B) -> Result<()
     requires { length (B.bytes bytes.now) < 0x4000_0000 }
     ensures { OnOk result (out.new.items ≡ out.old.items ++ length_words (kind_number kind - 0x1000) (B.bytes bytes.now)) }
 {
-    let size = le32((bytes.len() + kind.part_null_size()) as u32);
-    match kind {
-        Kind::MultipleBinary => {
-            out.extend_from_slice(&[size[0], size[1], size[2], size[3], 0, 0, 0, 0])?
-        }
-        _ => out.extend_from_slice(&size)?,
-    }
+    let size = (bytes.len() + kind.part_null_size()) as u32;
+    out.extend_from_slice(&words(size, 0)[..length_width(kind)])?;
     Ok(())
 }
 
@@ -82,7 +77,7 @@ pub fn lengths_bytes<B: Blob>(
     requires few { length list.now < plain.list_limit }
     ensures { IfOk result (λ out. out.items ≡ flat_map (length_words (kind_number kind - 0x1000)) list.now) }
 {
-    let mut out = Vec::with_capacity(alloc, list.len() * length_size(kind))?;
+    let mut out = Vec::with_capacity(alloc, list.len() * length_width(kind))?;
     for k in 0..list.len() {
         append_length(&mut out, kind, list.get(k))?;
     }
