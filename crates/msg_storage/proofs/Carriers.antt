@@ -1,5 +1,5 @@
 -- A message that opened files mean is a tree: no deeper than it may be, and its stores are stores.
-use Rattle.std.proofs.Common.{◌≡◌, ◌<◌, ◌≤◌, ◌⊎◌, inl, inr, List, Ok, arith}
+use Rattle.std.proofs.Common.{◌≡◌, ◌≤◌, List, Ok}
 use Rattle.carrier_model.specs.Files.{Files}
 use Rattle.carrier_model.specs.Meanings.{Passed}
 use Rattle.carrier_model.specs.Tables.{sector_size}
@@ -25,13 +25,8 @@ mutual
   body_has_stores (embedded inner) h = has_stores inner h
   body_has_stores (stored store) h = h
 
--- so it is never refused as a tree
-pub not_refused : (root : Files) (t : Message) (passed : List Passed) → IsOpened root → files_meaning root ≡ Ok (record { message = t; passed = passed }) → ((32 < depth t) ⊎ (HasStores t → ⊥)) → ⊥
-not_refused root t passed o means refused =
+pub is_tree : (root : Files) (t : Message) (passed : List Passed) → IsOpened root → files_meaning root ≡ Ok (record { message = t; passed = passed }) → (depth t ≤ 32) × HasStores t
+is_tree root t passed o means =
     let holds = open_sound (sector_size o.bytes) o.bytes root o.opens in
     let tree = msg_is_tree o.bytes t passed o.each o.few (record { root = root; holds = holds; means = files_meaning-sound root _ means }) in
-    by tree.levels tree.lists refused
-  where
-    by : depth t ≤ 32 → HasPropLists t → ((32 < depth t) ⊎ (HasStores t → ⊥)) → ⊥
-    by few lists (inl deep) = omega (arith, deep, few)
-    by few lists (inr none) = none (has_stores t lists)
+    (tree.levels, has_stores t tree.lists)

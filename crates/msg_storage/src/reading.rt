@@ -231,8 +231,6 @@ pub fn read_msg<'a>(alloc: Global, files: &Files<'a>) -> Result<Accepted<StreamV
         GREATEST_LEVEL,
         &mut passed,
     )?;
-    match Tree::new(message) {
-        Ok(tree) => Ok(Accepted { tree, passed }),
-        Err(_) => unreachable!(),
-    }
+    let tree = Tree::from_shallow(message);
+    Ok(Accepted { tree, passed })
 }

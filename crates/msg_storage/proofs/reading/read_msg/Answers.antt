@@ -1,4 +1,5 @@
 use Rattle.std.proofs.Common.{◌∙◌, ◌++◌, Ok, ap, sym}
+use Rattle.std.proofs.Math.Bridge.{le_prop}
 use Rattle.std.proofs.Math.Logic.{∥∥₁_elim}
 use Rattle.std.proofs.lemmas.Result.{err_from_is_err_and}
 use Rattle.carrier_model.specs.Tree.{GREATEST_LEVEL}
@@ -7,9 +8,10 @@ use Rattle.cfb_directory.specs.Shown.{files}
 use Rattle.msg_model.specs.MsgMessage.{files_meaning, message_in, name_streams}
 use Rattle.msg_model.specs.MsgProps.{top}
 use Rattle.msg_model.specs.NameMap.{pairs_of}
-use Rattle.msg_storage.proofs.Carriers.{not_refused}
+use Rattle.msg_storage.proofs.Carriers.{is_tree}
 use Rattle.msg_storage.proofs.Turned.{fails_with}
 use Rattle.msg_storage.proofs.WholeFiles.{both_sides, names_known, names_stop}
+use Rattle.msg_tree.specs.Keeping.{HasStores-prop}
 use Rattle.msg_tree.specs.Whole.{meaning_in}
 use Rattle.msg_storage.proofs.reading.read_msg.Goals as goal
 
@@ -35,13 +37,21 @@ returns-in_err-message-clause-answer c =
 pub returns-in_err-message-clause-both : goal.returns-in_err-message-clause-both
 returns-in_err-message-clause-both c = both_sides meaning_in c.from_residual-in_err-message.result (files c.args.files.now) (returns-in_err-message-clause-answer c)
 
-pub unreachable-requires : goal.unreachable-requires
-unreachable-requires c =
+pub from_shallow-tree-requires-clause-shallow : goal.from_shallow-tree-requires-clause-shallow
+from_shallow-tree-requires-clause-shallow c =
     let root = files c.args.files.now in
     let names = c.in_ok-names.names in
     let y = c.in_ok-message.ensures in
     let means = names_known root names c.in_ok-names.ensures.answer ∙ (ap (message_in GREATEST_LEVEL names top) (sym c.root-root.ensures.seen) ∙ y.gives) in
-    ∥∥₁_elim c.root-root.ensures.opened (λ a b. absurd a) (λ opened. not_refused root _ y.more opened means c.in-Err.ensures.refused)
+    ∥∥₁_elim c.root-root.ensures.opened le_prop (λ opened. (is_tree root _ y.more opened means).0)
+
+pub from_shallow-tree-requires-clause-stores : goal.from_shallow-tree-requires-clause-stores
+from_shallow-tree-requires-clause-stores c =
+    let root = files c.args.files.now in
+    let names = c.in_ok-names.names in
+    let y = c.in_ok-message.ensures in
+    let means = names_known root names c.in_ok-names.ensures.answer ∙ (ap (message_in GREATEST_LEVEL names top) (sym c.root-root.ensures.seen) ∙ y.gives) in
+    ∥∥₁_elim c.root-root.ensures.opened (HasStores-prop _) (λ opened. (is_tree root _ y.more opened means).1)
 
 pub returns-clause-answer : goal.returns-clause-answer
 returns-clause-answer c =
@@ -49,7 +59,7 @@ returns-clause-answer c =
     let names = c.in_ok-names.names in
     let y = c.in_ok-message.ensures in
     let passed = y.passed ∙ ap (λ l. l ++ y.more) c.new-passed.ensures in
-    names_known root names c.in_ok-names.ensures.answer ∙ (ap (message_in GREATEST_LEVEL names top) (sym c.root-root.ensures.seen) ∙ (y.gives ∙ (λ i. Ok (record { message = sym c.in-Ok.ensures.kept i; passed = sym passed i }))))
+    names_known root names c.in_ok-names.ensures.answer ∙ (ap (message_in GREATEST_LEVEL names top) (sym c.root-root.ensures.seen) ∙ (y.gives ∙ (λ i. Ok (record { message = sym c.from_shallow-tree.ensures i; passed = sym passed i }))))
 
 pub returns-clause-both : goal.returns-clause-both
-returns-clause-both c = both_sides meaning_in (Ok (record { tree = c.in-Ok.tree; passed = c.read_message.new.passed })) (files c.args.files.now) (returns-clause-answer c)
+returns-clause-both c = both_sides meaning_in (Ok (record { tree = c.from_shallow-tree.result; passed = c.read_message.new.passed })) (files c.args.files.now) (returns-clause-answer c)
