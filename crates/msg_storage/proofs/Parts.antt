@@ -1,5 +1,5 @@
 -- The parts of a message, by what is known of the whole.
-use Rattle.std.proofs.Common.{◌≡◌, ℕ, ◌≤◌, ◌++◌, List, length, Bool, None, sym, ap, subst, ◌∙◌, arith}
+use Rattle.std.proofs.Common.{◌≡◌, ℕ, ◌≤◌, ◌++◌, List, length, Bool, None, inl, inr, refl, sym, ap, subst, ◌∙◌, arith}
 use Rattle.std.specs.List.{flat_map}
 use Rattle.carrier_model.specs.FileTrees.{and_files}
 use Rattle.carrier_model.specs.Keys.{Name}
@@ -9,12 +9,19 @@ use Rattle.carrier_model.proofs.Trees.{listed-from}
 use Rattle.msg_model.specs.ReadBack.{HasFewParts, HaveFewParts, NamesAmong}
 use Rattle.msg_model.specs.WrittenMsg.{attachment_files, head_of, list_files, message_files, recipient_files}
 use Rattle.msg_model.proofs.WrittenMessages.{among, below_known, in_back, in_front, own_known, recipients_known}
-use Rattle.msg_storage.specs.Written.{Known}
+use Rattle.msg_props.specs.Heads.{head_at}
+use Rattle.msg_storage.specs.Written.{IsOfMessage, Known, is_top}
 use Rattle.msg_storage.proofs.Unrolled.{attached_out, tree_out}
 use Rattle.msg_tree.specs.Keeping.{HasStores, HaveStores}
 use Rattle.msg_tree.specs.Meaning.{attached_of, body_of, list_of, tree_of}
 use Rattle.msg_tree.specs.declared.messages.Attachment.{Attachment, out-Attachment}
 use Rattle.msg_tree.specs.declared.messages.Message.{Message, out-Message}
+use Rattle.prop_values.specs.declared.props.Part.{Part}
+
+-- the head of a message's list
+pub head_of_message : (part : Part) → IsOfMessage part → (i j : ℕ) → head_at part i j ≡ head_of (is_top part) i j
+head_of_message part (inl e) i j = rw e refl
+head_of_message part (inr e) i j = rw e refl
 
 module _ {B : Type 0} (bytes_of : B → List ℕ) (m : Message B) where
   whole_known : (names : List Name) → Known names (names_in (tree_of bytes_of m)) → Known names (names_in (plain.message (out-Message B m).props (out-Message B m).recipients (attachments_from (list_of bytes_of (out-Message B m).attachments))))

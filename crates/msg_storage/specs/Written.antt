@@ -1,5 +1,5 @@
 -- The storages of a message, one by one.
-use Rattle.std.specs.Prelude.{◌≡◌, ℕ, List, Contains, None, replicate}
+use Rattle.std.specs.Prelude.{◌≡◌, ℕ, Bool, true, false, ◌⊎◌, List, Contains, None, replicate}
 use Rattle.carrier_model.specs.FileTrees.{FileTree, storage, no_file, and_files, NO_CLASS}
 use Rattle.carrier_model.specs.Keys.{Name}
 use Rattle.carrier_model.specs.Tree.{Attached}
@@ -8,10 +8,22 @@ use Rattle.cfb_list.specs.Grown.{grown}
 use Rattle.cfb_list.specs.Listed.{Listed}
 use Rattle.msg_model.specs.StreamNames.{ATTACHMENT_NAME, RECIPIENT_NAME, numbered_name}
 use Rattle.msg_model.specs.WrittenMsg.{body_files, list_files, object_word}
+use Rattle.prop_values.specs.declared.props.Part.TheVariants.{Top, Embedded, Recipient, Attachment}
+use Rattle.prop_values.specs.declared.props.Part.{Part}
 
 -- a tree was added behind what is in a storage
 abbrev pub Adds : Listed → Listed → ℕ → FileTree → Type 0
 Adds old new at files = new ≡ record old { storages = grown old.storages at files }
+
+-- a list is that of a message, and whether it is the top one
+abbrev pub IsOfMessage : Part → Type 0
+IsOfMessage part = (part ≡ Top) ⊎ (part ≡ Embedded)
+
+abbrev pub is_top : Part → Bool
+is_top Top = true
+is_top Embedded = false
+is_top Recipient = false
+is_top Attachment = false
 
 -- names are among others
 abbrev pub Known : List Name → List Name → Type 0

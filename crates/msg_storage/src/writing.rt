@@ -1,5 +1,5 @@
 //! The storages and streams of a message.
-ghost use Rattle.std.specs.Prelude.{◌≡◌, ◌≤◌, ◌<◌, ◌∷◌, [], ℕ, length, IfOk, OnOk};
+ghost use Rattle.std.specs.Prelude.{◌≡◌, ◌≤◌, ◌<◌, ◌∷◌, [], length, IfOk, OnOk};
 ghost use Rattle.std.specs.List.{flat_map};
 ghost use Rattle.carrier_model.specs.Layout.{MESSAGE_CLASS};
 ghost use Rattle.carrier_model.specs.Tree as tree;
@@ -8,8 +8,7 @@ ghost use Rattle.cfb_list.specs.Grown.{grown};
 ghost use Rattle.msg_model.specs.ReadBack.{BodyHasFewParts, HasFewParts};
 ghost use Rattle.msg_model.specs.WrittenMsg as plain;
 ghost use Rattle.msg_nameid.specs.Maps.{IsAssigned, names_in};
-ghost use Rattle.msg_props.specs.Heads.{head_at};
-ghost use Rattle.msg_storage.specs.Written.{Adds, Known, attachment_tree, inside_attachment, recipient_tree};
+ghost use Rattle.msg_storage.specs.Written.{Adds, IsOfMessage, Known, attachment_tree, inside_attachment, is_top, recipient_tree};
 ghost use Rattle.msg_tree.specs.Keeping.{BodyHasStores, HasStores};
 ghost use Rattle.msg_tree.specs.Meaning.{attached_of, body_of, tree_of};
 ghost use Rattle.msg_tree.specs.Whole.{plain_of};
@@ -30,13 +29,6 @@ const MESSAGE_WORD: u32 = 1;
 
 /// That of the entry of an attachment's store.
 const STORE_WORD: u32 = 4;
-
-/// Whose list that of a message is.
-fn part_of(top: bool) -> Part
-    ensures { (recipients attachments : ℕ) → head_at result recipients attachments ≡ plain.head_of top recipients attachments }
-{
-    if top { Part::Top } else { Part::Embedded }
-}
 
 /// The head of the list of a recipient or an attachment.
 fn small_head(part: Part) -> Head
@@ -106,18 +98,19 @@ fn add_list<'t, B: Blob>(
     alloc: Global,
     files: &mut FileList<'t, B>,
     at: usize,
-    top: bool,
+    part: Part,
     message: &'t Message<B>,
     names: &NameMap,
 ) -> Result<(), NoMemory>
     requires at { at < length files.old.storages }
+    requires part { IsOfMessage part }
     requires assigned { IsAssigned names.now }
     requires known { Known (names_in names.now) (tree.names_in (tree_of B.bytes message.now)) }
     requires parts { HasFewParts (tree_of B.bytes message.now) }
-    ensures { OnOk result (Adds files.old files.new at (plain.list_files (names_in names.now) (plain.head_of top (length (tree.recipients_of (tree_of B.bytes message.now))) (length (tree.attachments_of (tree_of B.bytes message.now)))) (tree.props_of (tree_of B.bytes message.now)) None)) }
+    ensures { OnOk result (Adds files.old files.new at (plain.list_files (names_in names.now) (plain.head_of (is_top part) (length (tree.recipients_of (tree_of B.bytes message.now))) (length (tree.attachments_of (tree_of B.bytes message.now)))) (tree.props_of (tree_of B.bytes message.now)) None)) }
 {
     let head = Head {
-        part: part_of(top),
+        part,
         recipients: message.recipients.len() as u32,
         attachments: message.attachments.len() as u32,
     };
@@ -130,19 +123,20 @@ fn add_message<'t, B: Blob>(
     alloc: Global,
     files: &mut FileList<'t, B>,
     at: usize,
-    top: bool,
+    part: Part,
     message: &'t Message<B>,
     names: &NameMap,
 ) -> Result<(), NoMemory>
     requires at { at < length files.old.storages }
+    requires part { IsOfMessage part }
     requires assigned { IsAssigned names.now }
     requires known { Known (names_in names.now) (tree.names_in (tree_of B.bytes message.now)) }
     requires parts { HasFewParts (tree_of B.bytes message.now) }
     requires stores { HasStores (tree_of B.bytes message.now) }
-    ensures { OnOk result (Adds files.old files.new at (plain.message_files (names_in names.now) top (tree_of B.bytes message.now))) }
+    ensures { OnOk result (Adds files.old files.new at (plain.message_files (names_in names.now) (is_top part) (tree_of B.bytes message.now))) }
 {
     grown_lists_are_trees();
-    add_list(alloc, files, at, top, message, names)?;
+    add_list(alloc, files, at, part, message, names)?;
     add_recipients(alloc, files, at, &message.recipients, names)?;
     let attachments = &message.attachments;
     for k in 0..attachments.len() {
@@ -216,7 +210,7 @@ fn add_body<'t, B: Blob>(
         Body::Plain => Ok(()),
         Body::Message(inner) => {
             let storage = files.add_storage(at, OBJECT)?;
-            add_message(alloc, files, storage, false, inner, names)
+            add_message(alloc, files, storage, Part::Embedded, inner, names)
         }
         Body::Store(store) => {
             let name = object_units(alloc)?;
@@ -242,6 +236,6 @@ pub fn files_of<'t, B: Blob>(
     let map = NameMap::assign(alloc, names)?;
     let mut files = FileList::new(alloc)?;
     map.add_streams(alloc, &mut files)?;
-    add_message(alloc, &mut files, 0, true, tree.top(), &map)?;
+    add_message(alloc, &mut files, 0, Part::Top, tree.top(), &map)?;
     Ok(files)
 }

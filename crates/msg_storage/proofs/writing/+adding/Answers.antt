@@ -10,7 +10,7 @@ use Rattle.msg_model.specs.StreamNames.{value_name}
 use Rattle.msg_model.specs.WrittenMsg.{OBJECT_TAG, attachment_files, body_files, head_of, list_files, message_files, recipient_files}
 use Rattle.msg_nameid.specs.Maps.{names_in}
 use Rattle.msg_props.specs.Heads.{head_bytes}
-use Rattle.msg_storage.specs.Written.{Adds, attachment_tree}
+use Rattle.msg_storage.specs.Written.{Adds, attachment_tree, is_top}
 use Rattle.msg_storage.proofs.Adding.{adds_two, adds_within, attachment_few, attachment_known, attachment_stores, attachments_taken, told_storage}
 use Rattle.msg_storage.proofs.Bodies.{message_made}
 use Rattle.msg_storage.proofs.Parts.{attachment_named, below_named, body_is, body_named, depth_below, few_attachments, few_below, files_told, recipients_named, stores_below}
@@ -50,7 +50,7 @@ add_message-add_attachment-requires g t c κs within =
     let x = attached_of g.B.Blob.bytes c.get.result.now in
     let count = c.grown_lists_are_trees.ensures.count in
     let u = tree_of g.B.Blob.bytes m in
-    let own : FileTree = list_files names (head_of c.args.top (length (plain.recipients_of u)) (length (plain.attachments_of u))) (plain.props_of u) None in
+    let own : FileTree = list_files names (head_of (is_top c.args.part) (length (plain.recipients_of u)) (length (plain.attachments_of u))) (plain.props_of u) None in
     let theirs : FileTree = recipient_files names 0 (out-Message g.row.B.Denot m).recipients in
     let listed = adds_within count c.args.files.now c.add_list.new.files c.args.at own c.in_ok-add_list.ensures c.requires.at in
     let rows = adds_within count c.add_list.new.files c.add_recipients.new.files c.args.at theirs c.in_ok-add_recipients.ensures listed in
@@ -88,12 +88,12 @@ add_message-returns g t c =
     let u = tree_of g.B.Blob.bytes m in
     let xs = list_of g.B.Blob.bytes (out-Message g.row.B.Denot m).attachments in
     let steps = c.grown_lists_are_trees.ensures.steps in
-    let own : FileTree = list_files names (head_of c.args.top (length (plain.recipients_of u)) (length (plain.attachments_of u))) (plain.props_of u) None in
+    let own : FileTree = list_files names (head_of (is_top c.args.part) (length (plain.recipients_of u)) (length (plain.attachments_of u))) (plain.props_of u) None in
     let rows : FileTree = recipient_files names 0 (out-Message g.row.B.Denot m).recipients in
     let pieces : FileTree = attachment_files names 0 (attachments_from xs) in
     let all : take c.loop-k.k xs ≡ xs = take_all c.loop-k.k xs (omega (arith, c.len-k-end.ensures, c.loop-k-test.false)) in
     let last : Adds c.add_recipients.new.files c.loop-k.files c.args.at pieces = subst (λ z. Adds c.add_recipients.new.files c.loop-k.files c.args.at (attachment_files names 0 (attachments_from z))) all c.loop-k.invariant in
-    subst (λ (f : FileTree). Adds c.args.files.now c.loop-k.files c.args.at f) (files_told g.B.Blob.bytes m names c.args.top)
+    subst (λ (f : FileTree). Adds c.args.files.now c.loop-k.files c.args.at f) (files_told g.B.Blob.bytes m names (is_top c.args.part))
     (adds_two steps c.args.files.now c.add_list.new.files c.loop-k.files c.args.at own (and_files rows pieces) c.in_ok-add_list.ensures
     (adds_two steps c.add_list.new.files c.add_recipients.new.files c.loop-k.files c.args.at rows pieces c.in_ok-add_recipients.ensures last))
 
