@@ -18,5 +18,6 @@ mod write_tags;
 mod write_values;
 mod writing;
 
+pub use lists::PROPERTIES;
 pub use reading::{Section, read_props};
 pub use writing::{Head, add_props};

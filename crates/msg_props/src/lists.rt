@@ -5,7 +5,7 @@ ghost use Rattle.msg_props.specs.Sections.{part_of};
 
 use prop_values::Part;
 
-/// The name of the stream of a list. [MS-OXMSG 2.4]
+/// The name of the stream of a list, which makes a storage a message. [MS-OXMSG 2.4]
 pub const PROPERTIES: &str = "__properties_version1.0";
 
 /// The bytes of an entry. [MS-OXMSG 2.4.2]

@@ -20,7 +20,7 @@ use carrier_io::{Fault, PassedList, Reason, Stop};
 use cfb_directory::{Files, StorageId};
 use cfb_sectors::StreamView;
 use msg_nameid::NameMap;
-use msg_props::{Section, read_props};
+use msg_props::{PROPERTIES, Section, read_props};
 use msg_tree::{Accepted, Attachment, Attachments, Body, Message, Recipients, Tree};
 use ole_stores::read_store;
 use prop_values::{Part, Props};
@@ -28,9 +28,6 @@ use std::alloc::Global;
 
 /// How many levels of messages may lie in a message.
 const GREATEST_LEVEL: u32 = 32;
-
-/// The stream that makes a storage a message.
-const PROPERTIES: &str = "__properties_version1.0";
 
 /// A message of these parts.
 fn message_of<'a>(
