@@ -2,7 +2,6 @@
 ghost use Rattle.std.specs.Prelude.{◌≡◌, ◌<◌, ◌≤◌, ◌^◌, ◌-◌, ◌++◌, length, drop, filter, not, take, flat_map, map, List, IfOk, OnOk};
 ghost use Rattle.carrier_model.specs.Bytes as octets;
 ghost use Rattle.carrier_model.specs.Keys as keys;
-ghost use Rattle.carrier_model.specs.Kinds.{comes_before_object};
 ghost use Rattle.carrier_model.specs.Values as plain;
 ghost use Rattle.msg_model.specs.WrittenMsg as written;
 ghost use Rattle.msg_props.specs.Heads.{head_bytes};
@@ -14,15 +13,10 @@ use crate::lists::{ENTRY, head_size};
 use crate::write_values::{width_of_one, words};
 use crate::writing::Head;
 use carrier_io::{Blob, NoMemory, le64};
-use prop_names::Key;
 use prop_values::{Part, Prop, Props, Value};
 use std::alloc::Global;
 
-/// The id and the type of an attachment's object.
-const OBJECT_ID: u16 = 0x3701;
-
-const OBJECT_TYPE: u16 = 0x000d;
-
+/// The tag of an attachment's object: its id, and its type.
 const OBJECT_TAG: u32 = 0x3701_000d;
 
 /// Readable and writable.
@@ -93,15 +87,6 @@ fn append_object(out: &mut Vec<u8>, word: u32) -> Result<(), NoMemory>
     append_fields(out, OBJECT_TAG, &words(0xffff_ffff, word))
 }
 
-/// How many properties come before the object of an attachment.
-fn object_place<B: Blob>(props: &Props<B>) -> usize
-    ensures within { result ≤ length props.now }
-    ensures before { take result props.now ≡ filter comes_before_object props.now }
-    ensures behind { drop result props.now ≡ filter (λ (p : plain.Prop). not (comes_before_object p)) props.now }
-{
-    props.count_before(&Key::Id(OBJECT_ID), OBJECT_TYPE)
-}
-
 /// Appends the entries of a list, and that of an object in its place.
 fn append_entries<B: Blob>(
     out: &mut Vec<u8>,
@@ -115,7 +100,7 @@ fn append_entries<B: Blob>(
     match object {
         None => append_range(out, props, tags, 0, props.len()),
         Some(word) => {
-            let place = object_place(props);
+            let place = props.count_before_object();
             append_range(out, props, tags, 0, place)?;
             append_object(out, word)?;
             append_range(out, props, tags, place, props.len())
