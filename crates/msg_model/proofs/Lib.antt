@@ -1,3 +1,4 @@
+pub mod AsciiNames
 pub mod MsgMessage
 pub mod MsgProps
 pub mod MsgSteps

@@ -1,5 +1,4 @@
 pub mod AddedFiles
-pub mod AsciiNames
 pub mod AssignedLaws
 pub mod DraftLaws
 pub mod GatheredLaws

@@ -8,7 +8,7 @@ use prop_names::upper_digits8;
 use std::str;
 
 /// The name of the stream of a tag. [MS-OXMSG 2.1.3]
-#[tactic(auto, using(crate::proofs::AsciiNames::value_ascii))]
+#[tactic(auto, using(msg_model::proofs::AsciiNames::value_ascii))]
 pub fn value_name(tag: u32) -> [u8; 20]
     ensures name { result ≡ plain.value_name tag }
     ensures ascii { IsAscii result }

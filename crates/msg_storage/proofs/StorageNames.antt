@@ -2,7 +2,7 @@
 use Rattle.std.proofs.Common.{ℕ, refl}
 use Rattle.std.specs.Str.{IsAscii}
 use Rattle.msg_model.specs.StreamNames.{ATTACHMENT_NAME, RECIPIENT_NAME, numbered_name}
-use Rattle.msg_nameid.proofs.AsciiNames.{numbered_ascii}
+use Rattle.msg_model.proofs.AsciiNames.{numbered_ascii}
 
 pub recipient_ascii : (n : ℕ) → IsAscii (numbered_name RECIPIENT_NAME n)
 recipient_ascii n = numbered_ascii RECIPIENT_NAME n refl

@@ -1,6 +1,6 @@
 use Rattle.std.proofs.Common.{sym, ◌∙◌}
 use Rattle.std.proofs.lemmas.Str.{IsUtf8-from_ascii, encodes-IsAscii}
-use Rattle.msg_nameid.proofs.AsciiNames.{units_ascii}
+use Rattle.msg_model.proofs.AsciiNames.{units_ascii}
 use Rattle.msg_nameid.proofs.stream_names.text_of.Goals as goal
 
 pub unreachable-requires : goal.unreachable-requires
