@@ -3,6 +3,7 @@
 
 mod attachment_chunks;
 mod chunked_list;
+mod editable;
 mod editing;
 mod ends;
 mod lists;

@@ -6,6 +6,7 @@ ghost use Rattle.prop_values.specs.Kinds.{kind_number};
 ghost use Rattle.edit_words.specs.Meaning.{edit_of};
 ghost use Rattle.tree_edit.specs.Changes.{IsCauseOf, in_turn, on_props};
 
+use crate::editable::{Editable, edit_in_turn};
 use crate::editing::OnceEnd;
 use crate::ends::EditWhy;
 use crate::prop_map::{PropMap, listed, mapped};
@@ -44,59 +45,55 @@ fn remove_prop(props: &mut Props<Vec<u8>>, key: &Key, kind: Kind) -> bool
     }
 }
 
-/// Does an edit of properties in a list. It answers whether it could be done.
-fn edit_list(alloc: Global, props: &mut Props<Vec<u8>>, edit: &Edit) -> Result<bool, NoMemory>
-    ensures done { IfOk result (λ done. done ≡ true → on_props (edit_of edit.now) props.old ≡ Ok props.new) }
-    ensures absent { IfOk result (λ done. done ≡ false → on_props (edit_of edit.now) props.old ≡ Err no_property) }
-{
-    match edit {
-        Edit::SetProp { prop, .. } => {
-            set_prop(props, copy_prop(alloc, prop)?)?;
-            Ok(true)
-        }
-        Edit::RemoveProp { key, kind, .. } => Ok(remove_prop(props, key, *kind)),
-        _ => Ok(true),
-    }
-}
+impl Editable for Props<Vec<u8>> {
+    ghost use Rattle.std.specs.Prelude.{List};
+    ghost use Rattle.carrier_model.specs.Values.{Prop as PlainProp};
+    ghost use Rattle.tree_edit.specs.declared.ends.EditWhy.TheVariants as whys;
 
-/// Does an edit of properties in a map. It answers whether it could be done.
-fn edit_map(alloc: Global, sorted: &mut PropMap, edit: &Edit) -> Result<bool, NoMemory>
-    ensures done { IfOk result (λ done. done ≡ true → on_props (edit_of edit.now) sorted.old ≡ Ok sorted.new) }
-    ensures absent { IfOk result (λ done. done ≡ false → (on_props (edit_of edit.now) sorted.old ≡ Err no_property) × (sorted.new ≡ sorted.old)) }
-{
-    match edit {
-        Edit::SetProp { prop, .. } => {
-            sorted.set(alloc, copy_prop(alloc, prop)?)?;
-            Ok(true)
-        }
-        Edit::RemoveProp { key, kind, .. } => sorted.remove(alloc, key, *kind),
-        _ => Ok(true),
-    }
-}
+    type Form = PropMap;
 
-/// Does an edit of properties in a map, and those behind it up to the first that can't be done. It answers how many of those
-/// behind it were done.
-fn edit_map_on(
-    alloc: Global,
-    sorted: &mut PropMap,
-    edit: &Edit,
-    behind: &[Edit],
-) -> Result<usize, OnceEnd>
-    ensures count { IfOk result (λ n. n ≤ length behind.now) }
-    ensures ok { IfOk result (λ n. in_turn on_props (edit_of edit.now) (take n (map edit_of behind.now)) sorted.old ≡ Ok sorted.new) }
-    ensures err { IfErr result (IsCauseOf (on_props (edit_of edit.now) sorted.old)) }
-{
-    if !edit_map(alloc, sorted, edit)? {
-        return Err(OnceEnd::Cannot(EditWhy::NoProperty));
-    }
-    let mut count = 0;
-    for next in behind {
-        if !edit_map(alloc, sorted, next)? {
-            return Ok(count);
+    ghost Plain = { List PlainProp };
+
+    ghost plain = { λ props. props };
+
+    ghost held = { λ map. map };
+
+    ghost edited = { on_props };
+
+    const WHY: EditWhy = EditWhy::NoProperty;
+
+    ghost WHY = { whys.NoProperty };
+
+    fn edit(&mut self, alloc: Global, edit: &Edit) -> Result<bool, NoMemory> {
+        match edit {
+            Edit::SetProp { prop, .. } => {
+                set_prop(self, copy_prop(alloc, prop)?)?;
+                Ok(true)
+            }
+            Edit::RemoveProp { key, kind, .. } => Ok(remove_prop(self, key, *kind)),
+            _ => Ok(true),
         }
-        count += 1;
     }
-    Ok(count)
+
+    fn take_form(&mut self, alloc: Global) -> Result<Self::Form, NoMemory> {
+        mapped(alloc, self)
+    }
+
+    fn edit_form(form: &mut Self::Form, alloc: Global, edit: &Edit) -> Result<bool, NoMemory> {
+        match edit {
+            Edit::SetProp { prop, .. } => {
+                form.set(alloc, copy_prop(alloc, prop)?)?;
+                Ok(true)
+            }
+            Edit::RemoveProp { key, kind, .. } => form.remove(alloc, key, *kind),
+            _ => Ok(true),
+        }
+    }
+
+    fn put_form(&mut self, alloc: Global, form: Self::Form) -> Result<(), NoMemory> {
+        *self = Props::new(alloc);
+        listed(form, self)
+    }
 }
 
 /// Does an edit of properties in a list, and those behind it up to the first that can't be done. It answers how many of those
@@ -111,14 +108,5 @@ pub fn edit_props(
     ensures ok { IfOk result (λ n. in_turn on_props (edit_of edit.now) (take n (map edit_of behind.now)) props.old ≡ Ok props.new) }
     ensures err { IfErr result (IsCauseOf (on_props (edit_of edit.now) props.old)) }
 {
-    if behind.is_empty() {
-        if edit_list(alloc, props, edit)? {
-            return Ok(0);
-        }
-        return Err(OnceEnd::Cannot(EditWhy::NoProperty));
-    }
-    let mut sorted = mapped(alloc, props)?;
-    let count = edit_map_on(alloc, &mut sorted, edit, behind)?;
-    listed(sorted, props)?;
-    Ok(count)
+    edit_in_turn(alloc, props, edit, behind)
 }

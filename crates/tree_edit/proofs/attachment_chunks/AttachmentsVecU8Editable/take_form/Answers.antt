@@ -3,14 +3,14 @@ use Rattle.std.proofs.lemmas.List.{length-set, map-append}
 use Rattle.msg_tree.specs.Meaning.{attached_of, list_of}
 use Rattle.tree_edit.specs.ChunkedLists.{listed}
 use Rattle.tree_edit.proofs.ChunkLists.{next_out}
-use Rattle.tree_edit.proofs.attachment_chunks.chunks_of.Goals as goal
+use Rattle.tree_edit.proofs.attachment_chunks.AttachmentsVecU8Editable.take_form.Goals as goal
 
 pub loop-k-preserved : goal.loop-k-preserved
 loop-k-preserved c =
-    let l = list_of (λ v. v.items) c.loop-k.attachments in
+    let l = list_of (λ v. v.items) c.loop-k.self in
     let x = attached_of (λ v. v.items) c.replace.result in
     let y = attached_of (λ v. v.items) c.empty.result in
-    let out = next_out l (list_of (λ v. v.items) c.args.attachments.now) c.loop-k.k x y c.replace.ensures.taken c.loop-k.invariant.left in
+    let out = next_out l (list_of (λ v. v.items) c.args.self.now) c.loop-k.k x y c.replace.ensures.taken c.loop-k.invariant.left in
     record {
       taken = ap (map (attached_of (λ v. v.items))) c.in_ok-push.ensures ∙ (map-append (attached_of (λ v. v.items)) (listed c.loop-k.chunks) (c.replace.result ∷ []) ∙ (ap (λ r. r ++ x ∷ []) c.loop-k.invariant.taken ∙ sym out.0));
       left = ap (drop (c.loop-k.k + 1)) c.replace.ensures.put ∙ out.1;
