@@ -21,7 +21,7 @@ use Rattle.json_model.specs.JsonMeanings.{MOST_JSON, TextMeansTree, FirstJsonFau
 use Rattle.json_model.specs.MessageForms.{json_text}
 use Rattle.outlook_status.specs.declared.status.Status.{Status}
 use Rattle.outlook_status.specs.declared.status.Status.TheVariants.{Done, Refused, Usage, Unmapped, Edit, Json, Unfit, ReadFault, WriteFault, NoMemory}
-use Rattle.outlook_cli.specs.Outcome.{Tells, TellsJob, TellsText, TellsChange, TellsJson, TellsTree, PutsJson, IsShort, IsTooLong, IsJsonAnswered, ToldOfTree, IsTreeAnswered, most_bytes, ToldOfChange, PutsChange, PutsFile, IsSnag, status_of_text, IsChangeAnswered, IsText, shown, checked, IsDone, IsUnfit, IsRefused, IsAnswered, IsTold, Answers, LeavesAtDone}
+use Rattle.outlook_cli.specs.Outcome.{Tells, TellsJob, TellsText, TellsChange, TellsJson, TellsTree, PutsJson, IsShort, IsTooLong, IsJsonAnswered, IsTreeAnswered, most_bytes, ToldOfChange, PutsChange, PutsFile, IsSnag, status_of_text, IsChangeAnswered, IsText, shown, checked, IsDone, IsUnfit, IsRefused, IsAnswered, IsTold, Answers, LeavesAtDone}
 use Rattle.outlook_cli.specs.Words.{Reads}
 use Rattle.json_model.proofs.CompleteMessages.{one_tree_of_text, one_fault_of_text, no_fault_of_text}
 use Rattle.text8_model.specs.Unicode.{converted, first_unmapped}

@@ -7,8 +7,8 @@ ghost use Rattle.json_model.specs.JsonMeanings.{MOST_JSON};
 ghost use Rattle.outlook_cli.specs.Outcome.{PutsJson, TellsJson, TellsTree, WritesNothing};
 
 use crate::changing::write_file;
-use crate::telling::stopped;
-use carrier_io::{Blob, Sink, write_gathered};
+use crate::telling::{put_text, stopped};
+use carrier_io::{Blob, Sink};
 use msg_tree::{Limit, Tree};
 use outlook_status::Status;
 use std::alloc::Global;
@@ -34,10 +34,7 @@ fn write_json<B: Blob, O: Sink>(tree: &Tree<B>, output: &mut O) -> Status
     if length > JSON_LIMIT as u64 {
         return Status::Unfit(Limit::Size(length));
     }
-    match write_gathered(&JsonText { tree }, output) {
-        Ok(()) => Status::Done,
-        Err(_) => Status::WriteFault,
-    }
+    put_text(&JsonText { tree }, output)
 }
 
 /// Writes the JSON text of the message that bytes mean.

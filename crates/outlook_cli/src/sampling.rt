@@ -10,7 +10,8 @@ ghost use Rattle.msg_tree.specs.Whole.{plain_of};
 ghost use Rattle.outlook_cli.specs.Forms.{AreForms};
 ghost use Rattle.outlook_cli.specs.Outcome.{IsText, WritesNothing};
 
-use carrier_io::{Failed, NoMemory, Sink, Writing, sum_of, write_gathered};
+use crate::telling::put_text;
+use carrier_io::{Failed, NoMemory, Sink, Writing, sum_of};
 use msg_tree::{Tree, names};
 use outlook_status::Status;
 use prop_names::NameSet;
@@ -104,8 +105,5 @@ pub fn write_sample<O: Sink>(alloc: Global, number: u32, output: &mut O) -> Stat
         names: &names,
         trip: &trip,
     };
-    match write_gathered(&told, output) {
-        Ok(()) => Status::Done,
-        Err(_) => Status::WriteFault,
-    }
+    put_text(&told, output)
 }

@@ -9,7 +9,7 @@ ghost use Rattle.outlook_cli.specs.Outcome.{IsText, TellsText, WritesNothing, ca
 ghost use Rattle.text_model.specs.TreeTexts.{show_text};
 ghost use Rattle.tree_texts.specs.Carriers.{carrier_of as carrier_told};
 
-use carrier_io::{Blob, Sink, Stop, write_gathered};
+use carrier_io::{Blob, Sink, Stop, Writing, write_gathered};
 use msg_tree::{Accepted, Tree, names};
 use outlook_status::Status;
 use std::alloc::Global;
@@ -36,16 +36,25 @@ fn tree_carrier(bytes: &[u8]) -> TreeCarrier
     }
 }
 
+/// Appends a text to the output.
+pub fn put_text<T: Writing, O: Sink>(text: &T, output: &mut O) -> Status
+    ensures told { IsText (T.text text.now) (O.held output.old) (O.held output.new) result }
+    ensures nothing { WritesNothing result output.old output.new }
+    ensures fault { result ≡ Status.WriteFault → Rose (O.faults output.old) (O.faults output.new) }
+{
+    match write_gathered(text, output) {
+        Ok(()) => Status::Done,
+        Err(_) => Status::WriteFault,
+    }
+}
+
 /// Appends every property of a tree.
 fn show_tree<B: Blob, O: Sink>(tree: &Tree<B>, output: &mut O) -> Status
     ensures told { IsText (show_text (plain_of tree.now)) (O.held output.old) (O.held output.new) result }
     ensures nothing { WritesNothing result output.old output.new }
     ensures fault { result ≡ Status.WriteFault → Rose (O.faults output.old) (O.faults output.new) }
 {
-    match write_gathered(&ShowText { tree }, output) {
-        Ok(()) => Status::Done,
-        Err(_) => Status::WriteFault,
-    }
+    put_text(&ShowText { tree }, output)
 }
 
 /// Appends how much there is in what was accepted, and what was passed over. The names are counted first.
@@ -64,10 +73,7 @@ fn check_accepted<B: Blob, O: Sink>(
     };
     let carrier = tree_carrier(bytes);
     let text = CheckText::new(carrier, &accepted.tree, &accepted.passed, &names);
-    match write_gathered(&text, output) {
-        Ok(()) => Status::Done,
-        Err(_) => Status::WriteFault,
-    }
+    put_text(&text, output)
 }
 
 /// Tells every property of the message that bytes mean.
