@@ -112,6 +112,7 @@ fn every_list<B: Blob>(
     parts.push(part).ok().ok_or("no memory")?;
     assert_eq!(rt; parts.len(), 1);
     assert!(rt; same_bytes(parts.get(0), &[1u8, 2, 3, 4].as_slice()));
+    assert_eq!(rt; parts.as_slice().len(), 1);
     let mut list = Props::new(alloc);
     list.insert_sorted(binary(0x1013, value))
         .ok()

@@ -105,7 +105,7 @@ built_sorted f [] = refl
 built_sorted f (stream name bytes ∷ cs) = ap (with_stream name bytes) (built_sorted f cs) ∙ stream_placed (λ k. sorted (f k)) name bytes (siblings_in_order cs)
 built_sorted f (storage name class number ∷ cs) = ap (with_storage name class (sorted (f number))) (built_sorted f cs) ∙ storage_placed (λ k. sorted (f k)) name class number (siblings_in_order cs)
 
-sorted_at : (ts : List FileTree) (k : ℕ) → sorted (tree_at ts k) ≡ tree_at (map sorted ts) k
+pub sorted_at : (ts : List FileTree) (k : ℕ) → sorted (tree_at ts k) ≡ tree_at (map sorted ts) k
 sorted_at [] k = refl
 sorted_at (t ∷ ts) zero = refl
 sorted_at (t ∷ ts) (suc k) = sorted_at ts k
@@ -115,7 +115,7 @@ same_built f g [] h = refl
 same_built f g (stream name bytes ∷ cs) h = ap (trees.stream name bytes) (same_built f g cs h)
 same_built f g (storage name class number ∷ cs) h = ap (λ (t : FileTree). trees.storage name class t (built f cs)) (h number) ∙ ap (trees.storage name class (g number)) (same_built f g cs h)
 
-trees_sorted : (n : ℕ) (storages : List (List Child)) → trees_from n (map siblings_in_order storages) ≡ map sorted (trees_from n storages)
+pub trees_sorted : (n : ℕ) (storages : List (List Child)) → trees_from n (map siblings_in_order storages) ≡ map sorted (trees_from n storages)
 trees_sorted n [] = refl
 trees_sorted n (s ∷ ss) =
     let later = trees_sorted (n + 1) ss in

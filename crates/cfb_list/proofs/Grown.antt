@@ -6,7 +6,7 @@ use Rattle.std.proofs.lemmas.List.{length-append, length-set}
 use Rattle.carrier_model.specs.FileTrees as trees
 use Rattle.carrier_model.specs.FileTrees.{FileTree, and_files, files_from, files_listed}
 use Rattle.cfb_list.specs.Grown.{grown, storages_in, MayBeAdded}
-use Rattle.cfb_list.specs.Listed.{Child, stream, storage, children_at, with_child, built, tree_of, IsSound}
+use Rattle.cfb_list.specs.Listed.{Child, stream, storage, children_at, with_child, with_children, built, tree_of, IsSound}
 use Rattle.cfb_list.specs.Trees.{inside}
 use Rattle.cfb_list.proofs.BuiltTrees.{IsLater, AreLater, inside_later}
 use Rattle.cfb_list.proofs.Soundness.{child_added, child_of_front, storage_added}
@@ -75,17 +75,22 @@ nil_end : {X : Type 0} (xs : List X) → xs ++ [] ≡ xs
 nil_end [] = refl
 nil_end (x ∷ xs) = ap (λ (t : List _). x ∷ t) (nil_end xs)
 
+pub none_added : (ss : List (List Child)) (p : ℕ) → with_children ss p [] ≡ ss
+none_added ss p = ap (slice_set ss p) (nil_end (children_at ss p)) ∙ set_same ss p
+
 both_none : (ss : List (List Child)) (p : ℕ) → ss ≡ with_both ss p [] []
 unfolding with_both
-both_none ss p = sym (nil_end (slice_set ss p (children_at ss p ++ [])) ∙ ap (slice_set ss p) (nil_end (children_at ss p)) ∙ set_same ss p)
+both_none ss p = sym (nil_end (slice_set ss p (children_at ss p ++ [])) ∙ none_added ss p)
+
+pub child_again : (ss : List (List Child)) (p : ℕ) (c : Child) (cs : List Child) → p < length ss → with_children (with_child ss p c) p cs ≡ with_children ss p (c ∷ cs)
+child_again ss p c cs lt =
+    ap (λ (x : List Child). slice_set (with_child ss p c) p (x ++ cs)) (at_set ss p (children_at ss p ++ c ∷ []) lt)
+    ∙ set_again ss p (children_at ss p ++ c ∷ []) (children_at ss p ++ c ∷ [] ++ cs)
+    ∙ ap (slice_set ss p) (append_assoc (children_at ss p) (c ∷ []) cs)
 
 both_child : (ss : List (List Child)) (p : ℕ) (c : Child) (cs : List Child) (more : List (List Child)) → p < length ss → with_both (with_child ss p c) p cs more ≡ with_both ss p (c ∷ cs) more
 unfolding with_both
-both_child ss p c cs more lt =
-    ap (λ (t : List (List Child)). t ++ more)
-    (ap (λ (x : List Child). slice_set (with_child ss p c) p (x ++ cs)) (at_set ss p (children_at ss p ++ c ∷ []) lt)
-    ∙ set_again ss p (children_at ss p ++ c ∷ []) (children_at ss p ++ c ∷ [] ++ cs)
-    ∙ ap (slice_set ss p) (append_assoc (children_at ss p) (c ∷ []) cs))
+both_child ss p c cs more lt = ap (λ (t : List (List Child)). t ++ more) (child_again ss p c cs lt)
 
 both_last : (ss : List (List Child)) (cs : List Child) (more : List (List Child)) → with_both (ss ++ [] ∷ []) (length ss) cs more ≡ ss ++ (cs ∷ more)
 unfolding with_both

@@ -1,14 +1,15 @@
 -- A list stays sound where something is added.
 use Rattle.std.proofs.Common.{◌≡◌, ℕ, zero, suc, ◌+◌, ◌<◌, ◌≤◌, List, [], ◌∷◌, ◌++◌, Bool, true, false, map, length, take, refl, ap, subst, arith}
-use Rattle.std.specs.Prelude.{cond}
+use Rattle.std.specs.Prelude.{Some, cond, slice_get}
 use Rattle.cfb_list.specs.Sorting.{placed, in_order, comes_before, siblings_in_order}
 use Rattle.std.specs.List.{AllByRecursion}
 use Rattle.std.proofs.lemmas.List.{length-append, length-set, length-map}
-use Rattle.cfb_list.specs.Listed.{Child, stream, storage, children_at, with_child, IsChild, AreSound, IsSound}
+use Rattle.cfb_list.specs.Listed.{Child, stream, storage, children_at, with_child, with_children, IsChild, AreSound, IsSound}
 
-pub each_more : {X : Type 0} (P : X → Type 0) (xs : List X) (y : X) → AllByRecursion P xs → P y → AllByRecursion P (xs ++ y ∷ [])
-each_more P [] y h p = (p, tt)
-each_more P (x ∷ xs) y h p = (h.0, each_more P xs y h.1 p)
+pub each_seen : {X : Type 0} (P : X → Type 0) (xs : List X) (k : ℕ) (x : X) → slice_get xs k ≡ Some x → AllByRecursion P xs → P x
+each_seen P [] k x e all = absurd cc
+each_seen P (y ∷ ys) zero x e all = let same : y ≡ x = cc in subst P same all.0
+each_seen P (y ∷ ys) (suc k) x e all = each_seen P ys k x e all.1
 
 later : (n count more : ℕ) (child : Child) → count ≤ more → IsChild n count child → IsChild n more child
 later n count more (stream name bytes) h c = c
@@ -26,16 +27,23 @@ sound_empty : (n count : ℕ) (storages : List (List Child)) → AreSound n coun
 sound_empty n count [] a = (tt, tt)
 sound_empty n count (s ∷ ss) a = (a.0, sound_empty (n + 1) count ss a.1)
 
-sound_child : (n count k parent : ℕ) (storages : List (List Child)) (child : Child) → n + k ≡ parent → IsChild parent count child → AreSound n count storages → AreSound n count (with_child storages k child)
-sound_child n count k parent [] child e c a = tt
-sound_child n count zero parent (s ∷ ss) child e c a = let same : parent ≡ n = omega arith in (each_more (IsChild n count) s child a.0 (subst (λ m. IsChild m count child) same c), a.1)
-sound_child n count (suc k) parent (s ∷ ss) child e c a = (a.0, sound_child (n + 1) count k parent ss child (omega (arith, e)) c a.1)
+each_both : {X : Type 0} (P : X → Type 0) (xs ys : List X) → AllByRecursion P xs → AllByRecursion P ys → AllByRecursion P (xs ++ ys)
+each_both P [] ys h p = p
+each_both P (x ∷ xs) ys h p = (h.0, each_both P xs ys h.1 p)
 
--- one child more
+sound_children : (n count k parent : ℕ) (storages : List (List Child)) (more : List Child) → n + k ≡ parent → AllByRecursion (IsChild parent count) more → AreSound n count storages → AreSound n count (with_children storages k more)
+sound_children n count k parent [] more e c a = tt
+sound_children n count zero parent (s ∷ ss) more e c a = let same : parent ≡ n = omega arith in (each_both (IsChild n count) s more a.0 (subst (λ m. AllByRecursion (IsChild m count) more) same c), a.1)
+sound_children n count (suc k) parent (s ∷ ss) more e c a = (a.0, sound_children (n + 1) count k parent ss more (omega (arith, e)) c a.1)
+
+-- children more, and one
+pub children_added : (storages : List (List Child)) (parent : ℕ) (more : List Child) → AllByRecursion (IsChild parent (length storages)) more → IsSound storages → IsSound (with_children storages parent more)
+children_added storages parent more c s =
+    let same : length (with_children storages parent more) ≡ length storages = length-set storages parent (children_at storages parent ++ more) in
+    record { some = omega (arith, s.some, same); each = rw same (sound_children 0 (length storages) parent parent storages more (omega arith) c s.each) }
+
 pub child_added : (storages : List (List Child)) (parent : ℕ) (child : Child) → IsChild parent (length storages) child → IsSound storages → IsSound (with_child storages parent child)
-child_added storages parent child c s =
-    let same : length (with_child storages parent child) ≡ length storages = length-set storages parent (children_at storages parent ++ child ∷ []) in
-    record { some = omega (arith, s.some, same); each = rw same (sound_child 0 (length storages) parent parent storages child (omega arith) c s.each) }
+child_added storages parent child c s = children_added storages parent (child ∷ []) (c, tt) s
 
 -- one storage more, in which there is nothing
 pub storage_added : (storages : List (List Child)) → IsSound storages → IsSound (storages ++ [] ∷ [])

@@ -13,6 +13,10 @@ abbrev pub name_of : Child → List ℕ
 name_of (stream name bytes) = name
 name_of (storage name class number) = name
 
+-- a stream without a name and without bytes
+abbrev pub nothing : Child
+nothing = stream [] []
+
 -- the children of each storage by its number, in the order of adding; the root has the number 0
 pub record Listed : Type 0 where
   pub root_class : List ℕ
@@ -21,9 +25,12 @@ pub record Listed : Type 0 where
 abbrev pub children_at : List (List Child) → ℕ → List Child
 children_at storages k = get_or storages k []
 
--- one child more in a storage
+-- children more in a storage, and one more
+abbrev pub with_children : List (List Child) → ℕ → List Child → List (List Child)
+with_children storages parent more = slice_set storages parent (children_at storages parent ++ more)
+
 abbrev pub with_child : List (List Child) → ℕ → Child → List (List Child)
-with_child storages parent child = slice_set storages parent (children_at storages parent ++ child ∷ [])
+with_child storages parent child = with_children storages parent (child ∷ [])
 
 -- ---- the tree
 

@@ -1,9 +1,7 @@
-//! What a stream has.
-ghost use Rattle.std.specs.Prelude.{◌≡◌, ◌≤◌, ◌<◌, ◌+◌, ◌*◌, ◌-◌, length};
-ghost use Rattle.carrier_model.specs.Layout as layout;
-ghost use Rattle.carrier_model.specs.Totals.{capped};
-ghost use Rattle.cfb_list.specs.Contents.{content_bytes, child_of};
+//! What is in a storage, as it was added.
+ghost use Rattle.std.specs.Prelude.{◌≡◌, ◌<◌, ◌≤◌, length};
 
+use crate::views::{ContentView, FileView, KindView, NameView};
 use carrier_io::Blob;
 
 /// The bytes of a stream. [MS-CFB 2.6.1, 2.6.3]
@@ -15,18 +13,47 @@ pub enum Content<'t, B: Blob> {
     Value { bytes: &'t B, zeros: u8 },
 }
 
-/// A stream, or a storage with its class and its number.
+/// The units of a name.
 #[derive(Drop)]
-pub enum Kind<'t, B: Blob> {
-    Stream(Content<'t, B>),
-    Storage { class: [u8; 16], number: usize },
+pub enum Name<'t> {
+    /// Units of its own.
+    Own(Vec<u16>),
+    /// Units that stand elsewhere, in front of a number, and the number, in eight upper-case hexadecimal digits.
+    Numbered { front: &'t [u16], number: u32 },
 }
 
-/// A stream or a storage, with the units of its name.
+/// A stream; a storage with its class and its number; or a row of values, each with so many zeros behind it, that become a
+/// stream each, named by a front and a number.
 #[derive(Drop)]
-pub struct File<'t, B: Blob> {
-    pub name: Vec<u16>,
-    pub kind: Kind<'t, B>,
+pub enum File<'t, B: Blob> {
+    Stream {
+        name: Name<'t>,
+        content: Content<'t, B>,
+    },
+    Row {
+        front: Vec<u16>,
+        list: &'t [B],
+        zeros: u8,
+    },
+    Storage {
+        name: Name<'t>,
+        class: [u8; 16],
+        number: usize,
+    },
+}
+
+/// Where a stream or a storage is found: at which place its file was added, and which of the file's it is.
+#[derive(Clone, Copy)]
+pub struct Place {
+    pub file: u32,
+    pub number: u32,
+}
+
+/// What is in a storage: the files as they were added, and the places of what they stand for in its order.
+#[derive(Drop)]
+pub struct SortedStorage<'t, B: Blob> {
+    pub files: Vec<File<'t, B>>,
+    pub places: Vec<Place>,
 }
 
 /// What is in a storage, in the order in which it was added.
@@ -36,62 +63,96 @@ pub struct Storage<'t, B: Blob> {
 }
 
 impl<'t, B: Blob> Content<'t, B> {
-    /// How many bytes there are; a number above the greatest `u64` stays there.
-    pub fn size(&self) -> u64
-        ensures { result ≡ capped (length (content_bytes B.bytes self.now)) }
+    ghost use Rattle.cfb_list.specs.Contents.{bytes_seen, content_bytes};
+
+    /// The bytes, to be looked at.
+    pub fn view(&self) -> ContentView<'_, B>
+        ensures { bytes_seen B.bytes result ≡ content_bytes B.bytes self.now }
     {
         match self {
-            Content::Own(bytes) => bytes.len() as u64,
-            Content::Value { bytes, zeros } => {
-                (bytes.len() as u64).saturating_add(u64::from(*zeros))
-            }
+            Content::Own(bytes) => ContentView::Own(bytes),
+            Content::Value { bytes, zeros } => ContentView::Value {
+                bytes,
+                zeros: *zeros,
+            },
+        }
+    }
+}
+
+impl<'t> Name<'t> {
+    ghost use Rattle.cfb_list.specs.Contents.{name_seen, name_units};
+
+    /// The name, to be looked at.
+    pub fn view(&self) -> NameView<'_>
+        ensures { name_seen result ≡ name_units self.now }
+    {
+        match self {
+            Name::Own(units) => NameView::Whole(units),
+            Name::Numbered { front, number } => NameView::Numbered {
+                front,
+                number: *number,
+            },
+        }
+    }
+}
+
+impl<'t, B: Blob> File<'t, B> {
+    ghost use Rattle.std.specs.Prelude.{Some, get_or, slice_get};
+    ghost use Rattle.cfb_list.specs.Contents.{child_seen, file_children, file_seen, name_seen};
+    ghost use Rattle.cfb_list.specs.Listed.{name_of, nothing};
+
+    /// How many streams and storages it stands for.
+    pub fn count(&self) -> usize
+        ensures { result ≡ length (file_children B.bytes self.now) }
+    {
+        match self {
+            File::Stream { .. } | File::Storage { .. } => 1,
+            File::Row { list, .. } => list.len(),
         }
     }
 
-    /// Whether it lies in the mini stream.
-    pub fn is_short(&self) -> bool
-        ensures { result ≡ layout.is_short (content_bytes B.bytes self.now) }
-    {
-        let size = self.size();
-        size > 0 && size < 4096
-    }
-
-    /// Whether it has sectors of its own.
-    pub fn is_long(&self) -> bool
-        ensures { result ≡ layout.is_long (content_bytes B.bytes self.now) }
-    {
-        self.size() >= 4096
-    }
-
-    /// How many pieces of a size it needs.
-    pub fn pieces(&self, size: u64) -> u64
-        requires some { 64 ≤ size }
-        requires few { size ≤ 4096 }
-        ensures { result ≡ layout.pieces size (content_bytes B.bytes self.now) }
-    {
-        let (len, zeros) = self.parts();
-        len / size + (len % size + zeros).div_ceil(size)
-    }
-
-    /// How many bytes are missing to whole pieces of a size.
-    pub fn missing(&self, size: u64) -> u64
-        requires some { 64 ≤ size }
-        requires few { size ≤ 4096 }
-        ensures { result ≡ layout.pieces size (content_bytes B.bytes self.now) * size - length (content_bytes B.bytes self.now) }
-    {
-        let (len, zeros) = self.parts();
-        let past = (len % size + zeros) % size;
-        if past == 0 { 0 } else { size - past }
-    }
-
-    /// How many bytes and how many zeros behind them there are.
-    fn parts(&self) -> (u64, u64)
-        ensures sum { result.0 + result.1 ≡ length (content_bytes B.bytes self.now) }
-        ensures few { result.1 < 256 }
+    /// The one with this number among them, without its name.
+    pub fn kind_at(&self, number: usize) -> KindView<'_, B>
+        requires { number < length (file_children B.bytes self.now) }
+        ensures { child_seen B.bytes (name_of (get_or (file_children B.bytes self.now) number nothing)) result ≡ get_or (file_children B.bytes self.now) number nothing }
     {
         match self {
-            Content::Own(bytes) => (bytes.len() as u64, 0),
-            Content::Value { bytes, zeros } => (bytes.len() as u64, u64::from(*zeros)),
+            File::Stream { content, .. } => KindView::Stream(content.view()),
+            File::Row { list, zeros, .. } => match list.get(number) {
+                Some(bytes) => KindView::Stream(ContentView::Value {
+                    bytes,
+                    zeros: *zeros,
+                }),
+                None => unreachable!(),
+            },
+            File::Storage { class, number, .. } => KindView::Storage {
+                class: *class,
+                number: *number,
+            },
+        }
+    }
+
+    /// The name of the one with this number; no units where there is none.
+    pub fn name_at(&self, number: u32) -> NameView<'_>
+        ensures { name_seen result ≡ name_of (get_or (file_children B.bytes self.now) number nothing) }
+    {
+        if number as usize >= self.count() {
+            return NameView::Whole(&[]);
+        }
+        match self {
+            File::Stream { name, .. } | File::Storage { name, .. } => name.view(),
+            File::Row { front, .. } => NameView::Numbered { front, number },
+        }
+    }
+
+    /// The one with this number, with its name.
+    pub fn view_at(&self, number: u32) -> FileView<'_, B>
+        requires { number < length (file_children B.bytes self.now) }
+        ensures { slice_get (file_children B.bytes self.now) number ≡ Some (file_seen B.bytes result) }
+    {
+        FileView {
+            name: self.name_at(number),
+            kind: self.kind_at(number as usize),
         }
     }
 }

@@ -4,8 +4,12 @@
 mod content;
 mod laws;
 mod list;
+mod sorted;
 mod sorting;
+mod views;
 
-pub use content::{Content, File, Kind, Storage};
-pub use laws::{grown_lists_are_trees, sorted_lists_are_trees};
+pub use content::{Content, File};
+pub use laws::{grown_lists_are_trees, sorted_lists_are_trees, sorted_lists_need_as_much};
 pub use list::FileList;
+pub use sorted::SortedList;
+pub use views::{ContentView, FileView, KindView, NameView, numbered_units};

@@ -3,8 +3,8 @@ ghost use Rattle.std.specs.Prelude.{◌≡◌, ◌<◌, ◌≤◌, ◌∷◌, �
 ghost use Rattle.carrier_model.specs.FileTrees.{NO_CLASS};
 ghost use Rattle.carrier_model.specs.Layout.{MESSAGE_CLASS};
 
-use crate::content::{Content, File, Kind, Storage};
-use crate::sorting::sort_all;
+use crate::content::{Content, File, Name, Storage};
+use crate::sorted::SortedList;
 use carrier_io::{Blob, NoMemory};
 use std::alloc::Global;
 use std::marker::Model;
@@ -39,13 +39,15 @@ impl<'t, B: Blob> Model for FileList<'t, B> {
 }
 
 impl<'t, B: Blob> FileList<'t, B> {
-    ghost use Rattle.cfb_list.specs.Contents.{content_bytes, child_of};
-    ghost use Rattle.std.specs.Prelude.{map};
+    ghost use Rattle.std.specs.Prelude.{flat_map, map};
+    ghost use Rattle.carrier_model.specs.FileTrees.{sorted, streams_from};
+    ghost use Rattle.cfb_list.specs.Contents.{content_bytes, file_children, name_units, row_streams};
+    ghost use Rattle.carrier_model.specs.KeyTexts.{hex_digits, upper};
+    ghost use Rattle.cfb_list.specs.Grown.{grown};
     ghost use Rattle.std.specs.List.{AllByRecursion};
     ghost use Rattle.cfb_list.specs.Listed as listed;
     ghost use Rattle.cfb_list.specs.Sorting.{siblings_in_order};
     ghost use Rattle.cfb_list.specs.Trees.{inside};
-    ghost use Rattle.carrier_model.specs.FileTrees.{sorted};
 
     /// The root alone, with the class of a .msg file. NoMemory says that memory ran out. [MS-OXMSG 2.2, MS-CFB 2.6.2]
     pub fn new(alloc: Global) -> Result<FileList<'t, B>, NoMemory>
@@ -76,31 +78,20 @@ impl<'t, B: Blob> FileList<'t, B> {
         self.root_class
     }
 
-    /// The same list with what is in each storage in its order. Each storage is sorted once. NoMemory says that memory
-    /// ran out.
-    pub fn sorted(self) -> Result<FileList<'t, B>, NoMemory>
-        ensures value { IfOk result (λ list. list ≡ record self.entry { storages = map siblings_in_order self.entry.storages }) }
-        ensures tree { IfOk result (λ list. listed.tree_of list.storages ≡ sorted (listed.tree_of self.entry.storages)) }
-        ensures class { IfOk result (λ list. length list.root_class ≡ 16) }
-        ensures sound { IfOk result (λ list. listed.IsSound list.storages) }
+    /// What is in each storage, in its order. Each storage is sorted once. NoMemory says that memory
+    /// ran out, or that more was added to one storage, or in one row, than a number of 32 bits tells.
+    pub fn sorted(self) -> Result<SortedList<'t, B>, NoMemory>
+        ensures value { IfOk result (λ list. list ≡ map siblings_in_order self.entry.storages) }
+        ensures tree { IfOk result (λ list. listed.tree_of list ≡ sorted (listed.tree_of self.entry.storages)) }
+        ensures sound { IfOk result (λ list. listed.IsSound list) }
     {
-        let FileList {
-            alloc,
-            root_class,
-            mut storages,
-        } = self;
-        sort_all(&mut storages)?;
-        Ok(FileList {
-            alloc,
-            root_class,
-            storages,
-        })
+        SortedList::of_storages(self.alloc, self.storages)
     }
 
     /// How many storages there are, with the root.
     pub fn count(&self) -> usize
         ensures count { result ≡ length self.now.storages }
-        ensures some { 0 < result }
+        ensures sound { listed.IsSound self.now.storages }
     {
         self.storages.len()
     }
@@ -108,7 +99,7 @@ impl<'t, B: Blob> FileList<'t, B> {
     /// What is in a storage.
     pub fn files_in(&self, parent: usize) -> &[File<'t, B>]
         requires { parent < length self.now.storages }
-        ensures seen { map (child_of B.bytes) result.now ≡ listed.children_at self.now.storages parent }
+        ensures seen { flat_map (file_children B.bytes) result.now ≡ listed.children_at self.now.storages parent }
         ensures sound { AllByRecursion (listed.IsChild parent (length self.now.storages)) (listed.children_at self.now.storages parent) }
         ensures tree { inside self.now.storages parent ≡ listed.built (inside self.now.storages) (listed.children_at self.now.storages parent) }
     {
@@ -118,8 +109,8 @@ impl<'t, B: Blob> FileList<'t, B> {
     /// Puts a file behind the others of a storage.
     fn add(&mut self, parent: usize, file: File<'t, B>) -> Result<(), NoMemory>
         requires parent { parent < length self.old.storages }
-        requires child { listed.IsChild parent (length self.old.storages) (child_of B.bytes file) }
-        ensures ok { OnOk result (self.new ≡ record self.old { storages = listed.with_child self.old.storages parent (child_of B.bytes file.entry) }) }
+        requires children { AllByRecursion (listed.IsChild parent (length self.old.storages)) (file_children B.bytes file) }
+        ensures ok { OnOk result (self.new ≡ record self.old { storages = listed.with_children self.old.storages parent (file_children B.bytes file.entry) }) }
         ensures err { OnErr result (self.new ≡ self.old) }
     {
         push_file(&mut self.storages[parent].files, file)?;
@@ -148,35 +139,38 @@ impl<'t, B: Blob> FileList<'t, B> {
     fn put_stream(
         &mut self,
         parent: usize,
-        name: Vec<u16>,
+        name: Name<'t>,
         content: Content<'t, B>,
     ) -> Result<(), NoMemory>
         requires parent { parent < length self.old.storages }
-        requires name { length name.items ≤ 31 }
-        ensures ok { OnOk result (self.new ≡ record self.old { storages = listed.with_child self.old.storages parent (listed.stream name.items (content_bytes B.bytes content.entry)) }) }
+        requires name { length (name_units name) ≤ 31 }
+        ensures ok { OnOk result (self.new ≡ record self.old { storages = listed.with_child self.old.storages parent (listed.stream (name_units name.entry) (content_bytes B.bytes content.entry)) }) }
         ensures err { OnErr result (self.new ≡ self.old) }
     {
-        let kind = Kind::Stream(content);
-        self.add(parent, File { name, kind })
+        self.add(parent, File::Stream { name, content })
     }
 
     /// Adds a storage whose name has these units, with a class, and answers its number.
     fn put_storage(
         &mut self,
         parent: usize,
-        name: Vec<u16>,
+        name: Name<'t>,
         class: [u8; 16],
     ) -> Result<usize, NoMemory>
         requires parent { parent < length self.old.storages }
-        requires name { length name.items ≤ 31 }
+        requires name { length (name_units name) ≤ 31 }
         ensures number { IfOk result (λ n. n ≡ length self.old.storages) }
-        ensures ok { OnOk result (self.new ≡ record self.old { storages = listed.with_child self.old.storages parent (listed.storage name.items class (length self.old.storages)) ++ [] ∷ [] }) }
+        ensures ok { OnOk result (self.new ≡ record self.old { storages = listed.with_child self.old.storages parent (listed.storage (name_units name.entry) class (length self.old.storages)) ++ [] ∷ [] }) }
         ensures err { OnErr result (self.new ≡ self.old) }
     {
         let number = self.storages.len();
         self.add_empty()?;
-        let kind = Kind::Storage { class, number };
-        match self.add(parent, File { name, kind }) {
+        let file = File::Storage {
+            name,
+            class,
+            number,
+        };
+        match self.add(parent, file) {
             Ok(()) => Ok(number),
             Err(refused) => {
                 self.keep_first(number);
@@ -198,7 +192,7 @@ impl<'t, B: Blob> FileList<'t, B> {
         ensures ok { OnOk result (self.new ≡ record self.old { storages = listed.with_child self.old.storages parent (listed.stream name.now (content_bytes B.bytes content.entry)) }) }
         ensures err { OnErr result (self.new ≡ self.old) }
     {
-        let name = name.to_vec(self.alloc)?;
+        let name = Name::Own(name.to_vec(self.alloc)?);
         self.put_stream(parent, name, content)
     }
 
@@ -216,7 +210,7 @@ impl<'t, B: Blob> FileList<'t, B> {
         ensures ok { OnOk result (self.new ≡ record self.old { storages = listed.with_child self.old.storages parent (listed.storage name.now class (length self.old.storages)) ++ [] ∷ [] }) }
         ensures err { OnErr result (self.new ≡ self.old) }
     {
-        let name = name.to_vec(self.alloc)?;
+        let name = Name::Own(name.to_vec(self.alloc)?);
         self.put_storage(parent, name, class)
     }
 
@@ -233,8 +227,62 @@ impl<'t, B: Blob> FileList<'t, B> {
         ensures ok { OnOk result (self.new ≡ record self.old { storages = listed.with_child self.old.storages parent (listed.stream name.now (content_bytes B.bytes content.entry)) }) }
         ensures err { OnErr result (self.new ≡ self.old) }
     {
-        let units = units_of(self.alloc, name)?;
-        self.put_stream(parent, units, content)
+        let name = Name::Own(units_of(self.alloc, name)?);
+        self.put_stream(parent, name, content)
+    }
+
+    /// Adds a stream to the storage with a number, by a name that is a front, which stays where it is, and a number in eight
+    /// hexadecimal digits. After NoMemory the list is unchanged. [MS-OXMSG 2.1.3]
+    pub fn add_numbered_stream(
+        &mut self,
+        parent: usize,
+        front: &'t [u16],
+        number: u32,
+        content: Content<'t, B>,
+    ) -> Result<(), NoMemory>
+        requires parent { parent < length self.old.storages }
+        requires front { length front.now ≤ 23 }
+        ensures ok { OnOk result (self.new ≡ record self.old { storages = listed.with_child self.old.storages parent (listed.stream (front.now ++ hex_digits upper 8 number) (content_bytes B.bytes content.entry)) }) }
+        ensures err { OnErr result (self.new ≡ self.old) }
+    {
+        self.put_stream(parent, Name::Numbered { front, number }, content)
+    }
+
+    /// Adds a storage without a class to that with a number, by a name that is a front, which stays where it is, and a number
+    /// in eight hexadecimal digits, and answers the number of the storage. After NoMemory the list is unchanged.
+    /// [MS-OXMSG 2.2.1, 2.2.2]
+    pub fn add_numbered_storage(
+        &mut self,
+        parent: usize,
+        front: &'t [u16],
+        number: u32,
+    ) -> Result<usize, NoMemory>
+        requires parent { parent < length self.old.storages }
+        requires front { length front.now ≤ 23 }
+        ensures number { IfOk result (λ n. n ≡ length self.old.storages) }
+        ensures ok { OnOk result (self.new ≡ record self.old { storages = listed.with_child self.old.storages parent (listed.storage (front.now ++ hex_digits upper 8 number) NO_CLASS (length self.old.storages)) ++ [] ∷ [] }) }
+        ensures err { OnErr result (self.new ≡ self.old) }
+    {
+        self.put_storage(parent, Name::Numbered { front, number }, [0; 16])
+    }
+
+    /// Adds a stream for each of some values, by a front of ASCII characters before its number, from 0 on, in eight
+    /// hexadecimal digits, with so many zeros behind its bytes. It takes no memory for each. After NoMemory the list is
+    /// unchanged. [MS-OXMSG 2.1.4]
+    pub fn add_row(
+        &mut self,
+        parent: usize,
+        front: &str,
+        list: &'t [B],
+        zeros: u8,
+    ) -> Result<(), NoMemory>
+        requires parent { parent < length self.old.storages }
+        requires front { length front.now ≤ 23 }
+        ensures ok { OnOk result (self.new ≡ record self.old { storages = grown self.old.storages parent (streams_from (row_streams front.now zeros 0 (map B.bytes list.now))) }) }
+        ensures err { OnErr result (self.new ≡ self.old) }
+    {
+        let front = units_of(self.alloc, front)?;
+        self.add(parent, File::Row { front, list, zeros })
     }
 
     /// Adds a storage without a class to that with a number, by a name of ASCII characters, and answers its number. After
@@ -246,8 +294,8 @@ impl<'t, B: Blob> FileList<'t, B> {
         ensures ok { OnOk result (self.new ≡ record self.old { storages = listed.with_child self.old.storages parent (listed.storage name.now NO_CLASS (length self.old.storages)) ++ [] ∷ [] }) }
         ensures err { OnErr result (self.new ≡ self.old) }
     {
-        let units = units_of(self.alloc, name)?;
-        self.put_storage(parent, units, [0; 16])
+        let name = Name::Own(units_of(self.alloc, name)?);
+        self.put_storage(parent, name, [0; 16])
     }
 }
 

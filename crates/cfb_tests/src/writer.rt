@@ -1,7 +1,7 @@
 //! What a list of storages and streams is written as.
 ghost use Rattle.std.specs.Prelude.{◌≡◌, ◌≤◌, length, vec_len, IfOk};
 
-use crate::files::{END, FOUR, FREE, Layout, Row, THREE, file_of, filled, put_names};
+use crate::files::{END, FOUR, FREE, Layout, Row, THREE, file_of, filled, put, put_names};
 use carrier_io::{Blob, MemorySink, NoMemory, u32_at, write_gathered};
 use cfb_writer::{Content, FileList, Plan, Version};
 use std::alloc::Global;
@@ -86,6 +86,81 @@ fn an_empty_storage_with_a_class(rt: HostRuntime) -> Result<(), Fail> {
     put_names(&mut file, &[(1024, "Root Entry"), (1152, "A")]);
     let same = is_written(rt.alloc(), Version::Three, list, &file)?;
     assert_eq!(rt; same, [true; 3]);
+    Ok(())
+}
+
+/// A file of version 3 with two streams of a row: the header, the table, the root and its streams with an unused entry, the
+/// mini FAT and the mini stream. The streams have two bytes and one.
+const ROW: [Row<'static>; 13] = [
+    (0, &[0xE011_CFD0, 0xE11A_B1A1]),
+    (24, &[0x0003_003E, 0x0009_FFFE, 6]),
+    (44, &[1, 1, 0, 4096, 2, 1, END, 0, 0]),
+    (512, &[0xFFFF_FFFD, END, END, END]),
+    (1088, &[0x0105_0016, FREE, FREE, 1]),
+    (1104, &[0x0002_0D0B, 0, 0xC0, 0x4600_0000]),
+    (1140, &[3, 128]),
+    (1216, &[0x0102_0016, FREE, 2, FREE]),
+    (1268, &[0, 2]),
+    (1344, &[0x0102_0016, FREE, FREE, FREE]),
+    (1396, &[1, 1]),
+    (1476, &[FREE, FREE, FREE]),
+    (1536, &[END, END]),
+];
+
+#[test]
+fn a_row_of_streams(rt: HostRuntime) -> Result<(), Fail> {
+    let alloc = rt.alloc();
+    let values = [vec![in alloc; 0xAB; 1]?, Vec::new(alloc)];
+    let mut list = FileList::new(alloc)?;
+    list.add_row(0, "R-", &values, 1)?;
+    let grounds = [(80, 0), (1024, 0xFF), (1536, 0), (2048, 0xFF), (2560, 0)];
+    let mut file = filled(alloc, &grounds, &ROW)?;
+    put_names(
+        &mut file,
+        &[
+            (1024, "Root Entry"),
+            (1152, "R-00000000"),
+            (1280, "R-00000001"),
+        ],
+    );
+    put(&mut file, 2048, &[0xAB]);
+    assert_eq!(rt; is_written(alloc, Version::Three, list, &file)?, [true; 3]);
+    Ok(())
+}
+
+/// A file of version 3 with a storage in which an empty stream is, both with numbers in their names: the header, the table,
+/// and the root, the storage, the stream and an unused entry.
+const NUMBERED: [Row<'static>; 11] = [
+    (0, &[0xE011_CFD0, 0xE11A_B1A1]),
+    (24, &[0x0003_003E, 0x0009_FFFE, 6]),
+    (44, &[1, 1, 0, 4096, END, 0, END, 0, 0]),
+    (512, &[0xFFFF_FFFD, END]),
+    (1088, &[0x0105_0016, FREE, FREE, 1]),
+    (1104, &[0x0002_0D0B, 0, 0xC0, 0x4600_0000]),
+    (1140, &[END]),
+    (1216, &[0x0101_0016, FREE, FREE, 2]),
+    (1344, &[0x0102_0016, FREE, FREE, FREE]),
+    (1396, &[END]),
+    (1476, &[FREE, FREE, FREE]),
+];
+
+#[test]
+fn numbers_in_names(rt: HostRuntime) -> Result<(), Fail> {
+    let alloc = rt.alloc();
+    let mut list: FileList<'static, Vec<u8>> = FileList::new(alloc)?;
+    let storage = list.add_numbered_storage(0, &[83, 45], 10)?;
+    list.add_numbered_stream(storage, &[86, 45], 11, Content::Own(Vec::new(alloc)))?;
+    let grounds = [(80, 0), (1024, 0xFF), (1536, 0)];
+    let mut file = filled(alloc, &grounds, &NUMBERED)?;
+    put_names(
+        &mut file,
+        &[
+            (1024, "Root Entry"),
+            (1152, "S-0000000A"),
+            (1280, "V-0000000B"),
+        ],
+    );
+    assert_eq!(rt; is_written(alloc, Version::Three, list, &file)?, [true; 3]);
     Ok(())
 }
 

@@ -134,6 +134,11 @@ end_of v class storages files n e h fits end =
     let size = layout_size v class storages files e h fits in
     (subst (λ (k : ℕ). MOST_BYTES < k) (sym size) end.0, end.1 ∙ ap capped (sym size))
 
+-- what is measured has few entries
+pub few_entries : (v : Version) (entries mini long : ℕ) (m : Measure) → IsMeasure (sector_of v) (planned (sector_of v) entries mini long) (Ok m) → 1 + entries ≤ 2147483648
+few_entries Three entries mini long m is = omega (arith, is.0.directory, ap (λ (p : Plan). p.sizes.directory) is.1)
+few_entries Four entries mini long m is = omega (arith, is.0.directory, ap (λ (p : Plan). p.sizes.directory) is.1)
+
 pub plan_of_files : (v : Version) (class : List ℕ) (files : FileTree) (laid : Laid) (m : Measure) → laid ≡ laid_of class files → length class ≡ 16 → MayBeAdded files → IsMeasure (sector_of v) (planned (sector_of v) (entries_in files) (mini_in files) (long_in (sector_of v) files)) (Ok m) → IsPlanned (sector_of v) m.numbers laid m.size
 plan_of_files v class files laid m e h fits is =
     let z = sector_of v in

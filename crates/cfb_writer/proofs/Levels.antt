@@ -1,17 +1,19 @@
 -- Entries placed level by level.
-use Rattle.std.proofs.Common.{◌≡◌, ℕ, ◌+◌, ◌*◌, ◌<◌, ◌≤◌, List, [], ◌∷◌, ◌++◌, length, get_or, drop, map, sym, ap, subst, ◌∙◌, append_assoc, arith}
-use Rattle.std.specs.Prelude.{All}
+use Rattle.std.proofs.Common.{◌≡◌, ℕ, ◌+◌, ◌*◌, ◌<◌, ◌≤◌, List, [], ◌∷◌, ◌++◌, length, get_or, drop, sym, ap, subst, ◌∙◌, append_assoc, arith}
+use Rattle.std.specs.Prelude.{All, Some, slice_get}
 use Rattle.std.specs.List.{AllByRecursion}
-use Rattle.std.proofs.lemmas.List.{append-nil, drop_more, drop_all, get_or-map, length-append, map-append}
+use Rattle.std.proofs.lemmas.List.{append-nil, drop_more, drop_all, length-append, map-append}
+use Rattle.std.proofs.lemmas.Option.{get_or_from_slice_get}
 use Rattle.carrier_model.specs.FileTrees.{entries_in}
+use Rattle.carrier_model.specs.Links.{no_link}
 use Rattle.carrier_model.specs.Layout.{Slot, slots_from, links_of_siblings, sibling_numbers, top_of}
-use Rattle.cfb_list.specs.Contents.{child_named, child_of}
+use Rattle.cfb_list.specs.Contents.{child_seen, file_seen, name_seen}
 use Rattle.cfb_writer.specs.Levels.{IsLevel, IsWhole, Proceeds, entries_left, files_left, slots_left}
 use Rattle.cfb_list.specs.Listed.{Child, stream, storage, built, children_at}
 use Rattle.cfb_writer.specs.Placed.{slot_of, slot_at, slots_at, child_at, IsPlace}
 use Rattle.cfb_list.specs.Trees.{inside}
-use Rattle.cfb_list.specs.declared.content.File.{File}
-use Rattle.cfb_list.specs.declared.content.Kind.{Kind}
+use Rattle.cfb_list.specs.declared.views.FileView.{FileView}
+use Rattle.cfb_list.specs.declared.views.KindView.{KindView}
 use Rattle.cfb_writer.specs.declared.placing.Level.{Level}
 use Rattle.cfb_writer.specs.declared.placing.Place.{Place}
 use Rattle.cfb_writer.proofs.Numbered.{left_more, room_then, slots_then}
@@ -48,19 +50,28 @@ storage_step st old new n m number name class link inner at e is =
     ∙ ap (λ (k : ℕ). old ++ (slot_of (storage name class number) link.0 link.1 k ∷ (slots_from m (links_of_siblings (sibling_numbers m t)) t ++ []))) is.top
     ∙ ap (λ (k : ℕ). old ++ (slot_of (storage name class number) link.0 link.1 (top_of (sibling_numbers k t)) ∷ (slots_from k (links_of_siblings (sibling_numbers k t)) t ++ []))) at
 
-pub storage_placed : (st : List (List Child)) (old new : List Place) (p : Place) (n m number : ℕ) (name class : List ℕ) (inner : Level) → m ≡ n + 1 → new ≡ old ++ p ∷ [] → p.child ≡ inner.top → child_at st p.storage p.file ≡ storage name class number → IsWhole st number m inner → slots_at st new ++ slots_left st m (inner ∷ []) ≡ slots_at st old ++ slots_from n ((p.left, p.right) ∷ []) (built (inside st) (child_at st p.storage p.file ∷ []))
-storage_placed st old new p n m number name class inner at e top child is =
-    let slot : slot_at st p ≡ slot_of (storage name class number) p.left p.right inner.top = ap (λ (c : Child). slot_of c p.left p.right p.child) child ∙ ap (slot_of (storage name class number) p.left p.right) top in
-    let more : slots_at st new ≡ slots_at st old ++ slot_of (storage name class number) p.left p.right inner.top ∷ [] = ap (slots_at st) e ∙ map-append (slot_at st) old (p ∷ []) ∙ ap (λ (s : Slot). slots_at st old ++ s ∷ []) slot in
-    storage_step st (slots_at st old) (slots_at st new) n m number name class (p.left, p.right) inner at more is
-    ∙ ap (λ (c : Child). slots_at st old ++ slots_from n ((p.left, p.right) ∷ []) (built (inside st) (c ∷ []))) (sym child)
+-- the place of a file, which stands in this storage at this number
+module _ (st : List (List Child)) (old new : List Place) (p : Place) (at file n : ℕ) (e : new ≡ old ++ p ∷ []) where
+  placed_at : (c : Child) (link : ℕ) → p.child ≡ link → p.storage ≡ at → p.file ≡ file → child_at st at file ≡ c → slots_at st new ≡ slots_at st old ++ slot_of c p.left p.right link ∷ []
+  placed_at c link top s f child =
+      let here : child_at st p.storage p.file ≡ c = ap (λ (k : ℕ). child_at st k p.file) s ∙ ap (child_at st at) f ∙ child in
+      let slot : slot_at st p ≡ slot_of c p.left p.right link = ap (λ (x : Child). slot_of x p.left p.right p.child) here ∙ ap (slot_of c p.left p.right) top in
+      ap (slots_at st) e ∙ map-append (slot_at st) old (p ∷ []) ∙ ap (λ (x : Slot). slots_at st old ++ x ∷ []) slot
+
+  pub storage_placed : (m number : ℕ) (name class : List ℕ) (inner : Level) → m ≡ n + 1 → p.child ≡ inner.top → p.storage ≡ at → p.file ≡ file → child_at st at file ≡ storage name class number → IsWhole st number m inner → slots_at st new ++ slots_left st m (inner ∷ []) ≡ slots_at st old ++ slots_from n ((p.left, p.right) ∷ []) (built (inside st) (child_at st at file ∷ []))
+  storage_placed m number name class inner next top s f child is =
+      storage_step st (slots_at st old) (slots_at st new) n m number name class (p.left, p.right) inner next (placed_at (storage name class number) inner.top top s f child) is
+      ∙ ap (λ (c : Child). slots_at st old ++ slots_from n ((p.left, p.right) ∷ []) (built (inside st) (c ∷ []))) (sym child)
+
+  pub stream_placed : (name bytes : List ℕ) → p.child ≡ no_link → p.storage ≡ at → p.file ≡ file → child_at st at file ≡ stream name bytes → slots_at st new ++ [] ≡ slots_at st old ++ slots_from n ((p.left, p.right) ∷ []) (built (inside st) (child_at st at file ∷ []))
+  stream_placed name bytes none s f child =
+      append-nil (slots_at st new)
+      ∙ placed_at (stream name bytes) no_link none s f child
+      ∙ ap (λ (c : Child). slots_at st old ++ slots_from n ((p.left, p.right) ∷ []) (built (inside st) (c ∷ []))) (sym child)
 
 -- the file at a place, by its kind
-pub kind_at : {B : Type 0} (of : B → List ℕ) (files : List (File B)) (cs : List Child) (k : ℕ) (file : File B) (kind : Kind B) → map (child_of of) files ≡ cs → k < length files → (get_or files k file).kind ≡ kind → get_or cs k (stream [] []) ≡ child_named of (get_or files k file).name.items kind
-kind_at of files cs k file kind seen lt is =
-    ap (λ (x : List Child). get_or x k (stream [] [])) (sym seen)
-    ∙ get_or-map (child_of of) files k file (stream [] []) lt
-    ∙ ap (child_named of (get_or files k file).name.items) is
+pub kind_at : {B : Type 0} (of : B → List ℕ) (cs : List Child) (k : ℕ) (file : FileView B) (kind : KindView B) → slice_get cs k ≡ Some (file_seen of file) → file.kind ≡ kind → get_or cs k (stream [] []) ≡ child_seen of (name_seen file.name) kind
+kind_at of cs k file kind at is = get_or_from_slice_get cs k (file_seen of file) (stream [] []) at ∙ ap (child_seen of (name_seen file.name)) is
 
 -- ---- a level goes on
 

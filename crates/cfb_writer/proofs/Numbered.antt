@@ -1,12 +1,12 @@
 -- Children numbered and placed, one after the other.
-use Rattle.std.proofs.Common.{◌≡◌, ℕ, zero, suc, ◌+◌, ◌-◌, ◌<◌, ◌≤◌, List, [], ◌∷◌, ◌++◌, length, get_or, take, drop, map, refl, sym, ap, ◌∙◌, append_assoc, arith}
-use Rattle.std.proofs.lemmas.List.{drop_more, length-append, length-map, get_or-map, length-take-le, length-drop}
+use Rattle.std.proofs.Common.{◌≡◌, ℕ, zero, suc, ◌+◌, ◌-◌, ◌<◌, ◌≤◌, List, [], ◌∷◌, ◌++◌, length, get_or, take, drop, refl, sym, ap, ◌∙◌, append_assoc, arith}
+use Rattle.std.specs.Prelude.{Some, slice_get}
+use Rattle.std.proofs.lemmas.List.{drop_more, length-append, length-take-le, length-drop}
+use Rattle.std.proofs.lemmas.Option.{get_or_from_slice_get}
 use Rattle.carrier_model.specs.FileTrees as trees
 use Rattle.carrier_model.specs.FileTrees.{FileTree, entries_in}
 use Rattle.carrier_model.specs.Layout.{Slot, sibling_numbers, slots_from, middle, top_of, side_links, links_of_siblings}
-use Rattle.cfb_list.specs.Contents.{child_of}
 use Rattle.cfb_list.specs.Listed.{Child, stream, storage, built}
-use Rattle.cfb_list.specs.declared.content.File.{File}
 
 -- one sibling, and those behind it
 pub numbers_then : (tree : ℕ → FileTree) (n : ℕ) (c : Child) (cs : List Child) → sibling_numbers n (built tree (c ∷ cs)) ≡ n ∷ sibling_numbers (n + entries_in (built tree (c ∷ []))) (built tree cs)
@@ -66,10 +66,8 @@ numbered_more tree first cs k number next numbers more c at e n is =
       room = omega (arith, is.room, n, ap (λ (x : List Child). entries_in (built tree x)) at, room_then tree c rest);
     }
 
-pub dropped_more : {B : Type 0} (of : B → List ℕ) (files : List (File B)) (k : ℕ) (file : File B) → k < length files → file ≡ get_or files k file → drop k (map (child_of of) files) ≡ child_of of file ∷ drop (k + 1) (map (child_of of) files)
-dropped_more of files k file lt at =
-    drop_more (map (child_of of) files) k (child_of of file) (omega (arith, lt, length-map files (child_of of)))
-    ∙ ap (λ (c : Child). c ∷ drop (k + 1) (map (child_of of) files)) (get_or-map (child_of of) files k file (child_of of file) lt ∙ ap (child_of of) (sym at))
+pub dropped_more : (cs : List Child) (k : ℕ) (c : Child) → k < length cs → slice_get cs k ≡ Some c → drop k cs ≡ c ∷ drop (k + 1) cs
+dropped_more cs k c lt at = drop_more cs k c lt ∙ ap (λ (x : Child). x ∷ drop (k + 1) cs) (get_or_from_slice_get cs k c c at)
 
 -- there is room for the next one
 pub room_here : (tree : ℕ → FileTree) (first : ℕ) (cs : List Child) (k number most : ℕ) (numbers : List ℕ) (c : Child) → Numbering tree first cs k number numbers → drop k cs ≡ c ∷ drop (k + 1) cs → first + entries_in (built tree cs) ≤ most → number + entries_in (built tree (c ∷ [])) ≤ most

@@ -3,14 +3,14 @@ use Rattle.std.specs.Prelude.{ℕ, List, ◌∷◌, ◌++◌, replicate, if◌th
 use Rattle.carrier_model.specs.Bytes.{le32}
 use Rattle.carrier_model.specs.Chains.{end_word}
 use Rattle.carrier_model.specs.Layout.{Slot, BLACK, name_field, is_short, is_long}
-use Rattle.cfb_list.specs.Contents.{child_of}
+use Rattle.cfb_list.specs.Contents.{file_seen}
 use Rattle.cfb_writer.specs.Placed.{slot_of}
 use Rattle.cfb_writer.specs.declared.directory.Fields.{Fields}
 use Rattle.cfb_writer.specs.declared.directory.Next.{Next}
 use Rattle.cfb_writer.specs.declared.entries.Entry.{Entry}
 
 abbrev pub slot_seen : {B : Type 0} → (B → List ℕ) → Entry B → Slot
-slot_seen of e = slot_of (child_of of e.file.now) e.left e.right e.child
+slot_seen of e = slot_of (file_seen of e.file) e.left e.right e.child
 
 -- a name, and the fields behind it
 abbrev pub record_bytes : List ℕ → Fields → List ℕ

@@ -1,21 +1,21 @@
 //! Contents and parts that are appended and added up.
 ghost use Rattle.carrier_io.specs.Known.{joined};
 ghost use Rattle.carrier_io.specs.Summed.{Sums};
-ghost use Rattle.cfb_list.specs.Contents.{content_bytes};
+ghost use Rattle.cfb_list.specs.Contents.{bytes_seen};
 
 use carrier_io::{Blob, Failed, Sink, append, append_blob, append_zeros};
-use cfb_list::Content;
+use cfb_list::ContentView;
 
 /// Appends the bytes of a content.
 pub fn append_content<B: Blob, W: Sink>(
     sink: &mut W,
-    content: &Content<'_, B>,
+    content: &ContentView<'_, B>,
 ) -> Result<u16, Failed>
-    ensures { Sums (W.held sink.old) (W.held sink.new) (W.faults sink.old) (W.faults sink.new) result (content_bytes B.bytes content.now) }
+    ensures { Sums (W.held sink.old) (W.held sink.new) (W.faults sink.old) (W.faults sink.new) result (bytes_seen B.bytes content.now) }
 {
     match content {
-        Content::Own(bytes) => append(sink, bytes),
-        Content::Value { bytes, zeros } => {
+        ContentView::Own(bytes) => append(sink, bytes),
+        ContentView::Value { bytes, zeros } => {
             let value = append_blob(sink, *bytes)?;
             let padding = append_zeros(sink, u64::from(*zeros))?;
             Ok(value.wrapping_add(padding))

@@ -3,7 +3,7 @@ ghost use Rattle.std.specs.Prelude.{◌≡◌, ◌≤◌, ◌<◌, ◌+◌, ◌-
 ghost use Rattle.std.specs.List.{flat_map, range_with_len, AllByRecursion};
 ghost use Rattle.carrier_model.specs.Bytes.{le16, le32};
 ghost use Rattle.carrier_model.specs.Layout as layout;
-ghost use Rattle.cfb_list.specs.Contents.{content_bytes};
+ghost use Rattle.cfb_list.specs.Contents.{bytes_seen, name_seen};
 ghost use Rattle.cfb_writer.specs.Entered.{slot_seen, record_bytes, stream_start};
 ghost use Rattle.cfb_writer.specs.Laid.{bytes_of, IsShort, root_slot, slots_in, others_of};
 ghost use Rattle.cfb_writer.specs.Numbered.{plan_seen, IsSmall, IsPlanFor};
@@ -21,7 +21,7 @@ use crate::sizes::{ENTRY, MINI_SECTOR};
 use crate::streams::{Share, pieces_of};
 use crate::version::Version;
 use carrier_io::{Blob, Failed, Sink, le16, le32};
-use cfb_list::{Content, Kind};
+use cfb_list::{ContentView, KindView, NameView, numbered_units};
 
 /// The object type of a storage. [MS-CFB 2.6.1]
 const STORAGE: u8 = 1;
@@ -122,6 +122,20 @@ fn append_fields<W: Sink>(sink: &mut W, name: &[u16], fields: &Fields) -> Result
     )
 }
 
+/// Appends an entry whose name may end in a number.
+fn append_named<W: Sink>(sink: &mut W, name: NameView<'_>, fields: &Fields) -> Result<u16, Failed>
+    requires { length (name_seen name) ≤ 31 }
+    ensures { Sums (W.held sink.old) (W.held sink.new) (W.faults sink.old) (W.faults sink.new) result (record_bytes (name_seen name.entry) fields.now) }
+{
+    match name {
+        NameView::Whole(name) => append_fields(sink, name, fields),
+        NameView::Numbered { front, number } => {
+            let (units, len) = numbered_units(front, number);
+            append_fields(sink, &units[..len], fields)
+        }
+    }
+}
+
 /// Where the next short stream begins in the mini stream, and the next long one in the file, in sectors.
 #[derive(Clone, Copy, Debug, PartialEq, Eq)]
 pub struct Next {
@@ -130,8 +144,8 @@ pub struct Next {
 }
 
 /// Where a content begins.
-fn start_of<B: Blob>(content: &Content<'_, B>, next: Next) -> u32
-    ensures { result ≡ stream_start next (content_bytes B.bytes content.now) }
+fn start_of<B: Blob>(content: &ContentView<'_, B>, next: Next) -> u32
+    ensures { result ≡ stream_start next (bytes_seen B.bytes content.now) }
 {
     if content.is_short() {
         next.mini
@@ -145,7 +159,7 @@ fn start_of<B: Blob>(content: &Content<'_, B>, next: Next) -> u32
 /// Appends an entry beside the root.
 fn append_entry<B: Blob, W: Sink>(
     sink: &mut W,
-    entry: &Entry<'_, '_, B>,
+    entry: &Entry<'_, B>,
     next: Next,
 ) -> Result<u16, Failed>
     requires { IsShort (slot_seen B.bytes entry.now) }
@@ -161,14 +175,14 @@ fn append_entry<B: Blob, W: Sink>(
         size: 0,
     };
     match &entry.file.kind {
-        Kind::Stream(content) => {
+        KindView::Stream(content) => {
             fields.kind = STREAM;
             fields.start = start_of(content, next);
             fields.size = content.size() as u32;
         }
-        Kind::Storage { class, .. } => fields.class = *class,
+        KindView::Storage { class, .. } => fields.class = *class,
     }
-    append_fields(sink, &entry.file.name, &fields)
+    append_named(sink, entry.file.name, &fields)
 }
 
 /// Appends the entries beside the root, where the first streams begin there.

@@ -7,7 +7,7 @@ use crate::totals::all_totals;
 use crate::version::Version;
 use crate::whole::append_file;
 use carrier_io::{Blob, Failed, PlanEnd, Sink, SureSink, Writing};
-use cfb_list::FileList;
+use cfb_list::{FileList, sorted_lists_are_trees, sorted_lists_need_as_much};
 use std::alloc::Global;
 use std::marker::Model;
 
@@ -79,13 +79,15 @@ impl<'t, B: Blob> Plan<'t, B> {
         ensures fits { IfOk result (λ p. length p ≤ MOST_BYTES) }
         ensures end { IfErr result (IsEndOf (layout_of (sector_of version) files.entry.root_class (tree_of files.entry.storages))) }
     {
-        let list = files.sorted()?;
-        let totals = all_totals(alloc, version, &list)?;
+        sorted_lists_are_trees();
+        sorted_lists_need_as_much();
+        let root_class = files.root_class();
+        let totals = all_totals(alloc, version, &files)?;
         let measure = match measured(version, totals[0]) {
             Ok(measure) => measure,
             Err(size) => return Err(PlanEnd::TooLarge(size)),
         };
-        let entries = entries_of(alloc, list, &totals)?;
+        let entries = entries_of(alloc, root_class, files.sorted()?, &totals)?;
         Ok(Plan::of_parts(version, measure.numbers, entries, measure.size))
     }
 

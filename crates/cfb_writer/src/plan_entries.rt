@@ -10,23 +10,24 @@ use crate::entries::Entries;
 use crate::placing::{append_level, level_of};
 use crate::totals::Totals;
 use carrier_io::{Blob, NoMemory};
-use cfb_list::FileList;
+use cfb_list::SortedList;
 use std::alloc::Global;
 
-/// The entries of a list whose storages are in order.
+/// The entries of storages in order, and the class of the root.
 pub fn entries_of<'t, B: Blob>(
     alloc: Global,
-    list: FileList<'t, B>,
+    root_class: [u8; 16],
+    list: SortedList<'t, B>,
     totals: &[Totals],
 ) -> Result<Entries<'t, B>, NoMemory>
-    requires many { length totals.now ≡ length list.storages }
-    requires counted { AreCounted (inside list.storages) 0 totals.now }
-    requires few { 1 + entries_in (tree_of list.storages) ≤ 2147483648 }
-    ensures { IfOk result (λ entries. entries ≡ laid_of list.entry.root_class (tree_of list.entry.storages)) }
+    requires many { length totals.now ≡ length list }
+    requires counted { AreCounted (inside list) 0 totals.now }
+    requires few { 1 + entries_in (tree_of list) ≤ 2147483648 }
+    ensures { IfOk result (λ entries. entries ≡ laid_of root_class (tree_of list.entry)) }
 {
     let level = level_of(alloc, &list, totals, 0, 1)?;
     let top = level.top;
     let mut places = Vec::with_capacity(alloc, totals[0].entries as usize)?;
     append_level(alloc, &list, totals, &mut places, level)?;
-    Ok(Entries::new(list, top, places))
+    Ok(Entries::new(root_class, list, top, places))
 }

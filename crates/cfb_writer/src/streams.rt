@@ -2,7 +2,7 @@
 ghost use Rattle.std.specs.Prelude.{◌≡◌, ◌≤◌, ◌<◌, ◌+◌, List, ℕ};
 ghost use Rattle.std.specs.List.{flat_map};
 ghost use Rattle.carrier_model.specs.Layout as layout;
-ghost use Rattle.cfb_list.specs.Contents.{content_bytes, child_named};
+ghost use Rattle.cfb_list.specs.Contents.{bytes_seen, child_seen};
 ghost use Rattle.cfb_writer.specs.Laid.{bytes_of};
 ghost use Rattle.cfb_writer.specs.Placed.{slot_of};
 ghost use Rattle.cfb_writer.specs.Shares as shares;
@@ -12,7 +12,7 @@ use crate::appending::append_content;
 use crate::entries::Entries;
 use crate::runs::{Run, append_run};
 use carrier_io::{Blob, Failed, Sink, append_zeros};
-use cfb_list::{Content, Kind};
+use cfb_list::{ContentView, KindView};
 
 /// Some of the streams.
 #[derive(Clone, Copy, Debug, PartialEq, Eq)]
@@ -25,8 +25,8 @@ pub enum Share {
 
 impl Share {
     /// Whether a content is among them.
-    fn has<B: Blob>(self, content: &Content<'_, B>) -> bool
-        ensures { result ≡ shares.is_of self (content_bytes B.bytes content.now) }
+    fn has<B: Blob>(self, content: &ContentView<'_, B>) -> bool
+        ensures { result ≡ shares.is_of self (bytes_seen B.bytes content.now) }
     {
         match self {
             Share::Short => content.is_short(),
@@ -36,32 +36,32 @@ impl Share {
 }
 
 /// How many pieces of a size a file's stream has, if it is one of the share.
-pub fn pieces_of<B: Blob>(kind: &Kind<'_, B>, share: Share, size: u64) -> u64
+pub fn pieces_of<B: Blob>(kind: &KindView<'_, B>, share: Share, size: u64) -> u64
     requires some { 64 ≤ size }
     requires few { size ≤ 4096 }
-    ensures { (name : List ℕ) (left right child : ℕ) → result ≡ shares.share_pieces share size (bytes_of (slot_of (child_named B.bytes name kind.now) left right child)) }
+    ensures { (name : List ℕ) (left right child : ℕ) → result ≡ shares.share_pieces share size (bytes_of (slot_of (child_seen B.bytes name kind.now) left right child)) }
 {
     match kind {
-        Kind::Stream(content) => {
+        KindView::Stream(content) => {
             if share.has(content) {
                 content.pieces(size)
             } else {
                 0
             }
         }
-        Kind::Storage { .. } => 0,
+        KindView::Storage { .. } => 0,
     }
 }
 
 /// Appends a content with zeros up to whole pieces.
 fn append_filled<B: Blob, W: Sink>(
     sink: &mut W,
-    content: &Content<'_, B>,
+    content: &ContentView<'_, B>,
     size: u64,
 ) -> Result<u16, Failed>
     requires some { 64 ≤ size }
     requires few { size ≤ 4096 }
-    ensures { Sums (W.held sink.old) (W.held sink.new) (W.faults sink.old) (W.faults sink.new) result (layout.filled size (content_bytes B.bytes content.now)) }
+    ensures { Sums (W.held sink.old) (W.held sink.new) (W.faults sink.old) (W.faults sink.new) result (layout.filled size (bytes_seen B.bytes content.now)) }
 {
     let bytes = append_content(sink, content)?;
     let zeros = append_zeros(sink, content.missing(size))?;
@@ -71,23 +71,23 @@ fn append_filled<B: Blob, W: Sink>(
 /// Appends a file's stream with zeros up to whole pieces, if it is one of the share.
 fn append_shared<B: Blob, W: Sink>(
     sink: &mut W,
-    kind: &Kind<'_, B>,
+    kind: &KindView<'_, B>,
     share: Share,
     size: u64,
 ) -> Result<u16, Failed>
     requires some { 64 ≤ size }
     requires few { size ≤ 4096 }
-    ensures { (name : List ℕ) (left right child : ℕ) → Sums (W.held sink.old) (W.held sink.new) (W.faults sink.old) (W.faults sink.new) result (shares.share_bytes share size (bytes_of (slot_of (child_named B.bytes name kind.now) left right child))) }
+    ensures { (name : List ℕ) (left right child : ℕ) → Sums (W.held sink.old) (W.held sink.new) (W.faults sink.old) (W.faults sink.new) result (shares.share_bytes share size (bytes_of (slot_of (child_seen B.bytes name kind.now) left right child))) }
 {
     match kind {
-        Kind::Stream(content) => {
+        KindView::Stream(content) => {
             if share.has(content) {
                 append_filled(sink, content, size)
             } else {
                 Ok(0)
             }
         }
-        Kind::Storage { .. } => Ok(0),
+        KindView::Storage { .. } => Ok(0),
     }
 }
 

@@ -1,8 +1,9 @@
 //! How much room trees need.
 ghost use Rattle.std.specs.Prelude.{◌≡◌, ◌<◌, ◌+◌, ◌∷◌, [], ℕ, List, length, vec_len, IfOk};
+ghost use Rattle.std.specs.List.{AllByRecursion};
 ghost use Rattle.carrier_model.specs.FileTrees.{FileTree};
 ghost use Rattle.carrier_model.specs.Totals.{capped};
-ghost use Rattle.cfb_list.specs.Contents.{child_named};
+ghost use Rattle.cfb_list.specs.Contents.{child_seen, file_children};
 ghost use Rattle.cfb_list.specs.Listed as listed;
 ghost use Rattle.cfb_writer.specs.Totals.{totals_of, AreKnown};
 ghost use Rattle.cfb_list.specs.Trees.{inside};
@@ -12,7 +13,7 @@ use crate::sizes::MINI_SECTOR;
 use crate::streams::{Share, pieces_of};
 use crate::version::Version;
 use carrier_io::{Blob, NoMemory};
-use cfb_list::{FileList, Kind};
+use cfb_list::{File, FileList, KindView};
 use std::alloc::Global;
 
 /// How many entries, mini sectors and sectors of streams of their own there are. A number above the greatest `u64` stays
@@ -47,9 +48,9 @@ impl Totals {
 }
 
 /// What a stream needs, or a storage with what is in it.
-fn kind_totals<B: Blob>(version: Version, kind: &Kind<'_, B>, totals: &[Totals]) -> Totals
-    requires { (parent : ℕ) × listed.IsChild parent (length totals.now) (child_named B.bytes [] kind.now) }
-    ensures { (parent : ℕ) (name : List ℕ) (tree : ℕ → FileTree) → listed.IsChild parent (length totals.now) (child_named B.bytes [] kind.now) → AreKnown (sector_of version) tree (parent + 1) totals.now → result ≡ totals_of (sector_of version) (listed.built tree (child_named B.bytes name kind.now ∷ [])) }
+fn kind_totals<B: Blob>(version: Version, kind: &KindView<'_, B>, totals: &[Totals]) -> Totals
+    requires { (parent : ℕ) × listed.IsChild parent (length totals.now) (child_seen B.bytes [] kind.now) }
+    ensures { (parent : ℕ) (name : List ℕ) (tree : ℕ → FileTree) → listed.IsChild parent (length totals.now) (child_seen B.bytes [] kind.now) → AreKnown (sector_of version) tree (parent + 1) totals.now → result ≡ totals_of (sector_of version) (listed.built tree (child_seen B.bytes name kind.now ∷ [])) }
 {
     let own = Totals {
         entries: 1,
@@ -57,9 +58,21 @@ fn kind_totals<B: Blob>(version: Version, kind: &Kind<'_, B>, totals: &[Totals])
         long: pieces_of(kind, Share::Long, version.sector()),
     };
     match kind {
-        Kind::Stream(_) => own,
-        Kind::Storage { number, .. } => own.and(totals[*number]),
+        KindView::Stream(_) => own,
+        KindView::Storage { number, .. } => own.and(totals[*number]),
     }
+}
+
+/// What a file stands for needs so much.
+fn file_totals<B: Blob>(version: Version, file: &File<'_, B>, totals: &[Totals]) -> Totals
+    requires { (parent : ℕ) × AllByRecursion (listed.IsChild parent (length totals.now)) (file_children B.bytes file.now) }
+    ensures { (parent : ℕ) (tree : ℕ → FileTree) → AllByRecursion (listed.IsChild parent (length totals.now)) (file_children B.bytes file.now) → AreKnown (sector_of version) tree (parent + 1) totals.now → result ≡ totals_of (sector_of version) (listed.built tree (file_children B.bytes file.now)) }
+{
+    let mut sum = NOTHING;
+    for number in 0..file.count() {
+        sum = sum.and(kind_totals(version, &file.kind_at(number), totals));
+    }
+    sum
 }
 
 /// What is in a storage needs so much.
@@ -76,7 +89,7 @@ fn family_totals<B: Blob>(
 {
     let mut sum = NOTHING;
     for file in list.files_in(parent) {
-        sum = sum.and(kind_totals(version, &file.kind, totals));
+        sum = sum.and(file_totals(version, file, totals));
     }
     sum
 }
@@ -87,6 +100,7 @@ pub fn all_totals<B: Blob>(
     version: Version,
     list: &FileList<'_, B>,
 ) -> Result<Vec<Totals>, NoMemory>
+    ensures sound { listed.IsSound list.now.storages }
     ensures many { IfOk result (λ v. vec_len v ≡ length list.now.storages) }
     ensures known { IfOk result (λ v. AreKnown (sector_of version) (inside list.now.storages) 0 v.items) }
 {

@@ -1,9 +1,11 @@
 -- A list of storages to which streams are added.
-use Rattle.std.proofs.Common.{◌≡◌, ℕ, suc, zero, ◌+◌, ◌≤◌, List, [], ◌∷◌, ◌++◌, Some, length, take, take_all, map, Option, refl, sym, ap, subst, ◌∙◌, Result, arith}
-use Rattle.std.specs.Prelude.{slice_get, replicate, OnOk}
+use Rattle.std.proofs.Common.{◌≡◌, ℕ, ◌+◌, ◌≤◌, List, [], ◌∷◌, ◌++◌, Some, length, take, take_all, map, Option, refl, sym, ap, subst, ◌∙◌, Result, arith}
+use Rattle.std.specs.Prelude.{codes, slice_get, replicate, OnOk}
+use Rattle.std.proofs.lemmas.List.{append_assoc}
 use Rattle.std.specs.List.{flat_map, zip}
 use Rattle.carrier_model.specs.FileTrees.{FileTree, and_files, streams_from, stream}
-use Rattle.carrier_model.proofs.Messages.{taken_at}
+use Rattle.carrier_model.specs.KeyTexts.{hex_digits, upper}
+use Rattle.cfb_list.specs.Contents.{row_streams}
 use Rattle.cfb_list.specs.Grown.{grown}
 use Rattle.cfb_list.specs.Listed.{Child, Listed}
 use Rattle.msg_model.specs.StreamNames.{element_name, value_name}
@@ -47,31 +49,12 @@ pub values_all : (first now : Listed) (at : ℕ) (tags : List ℕ) (props : List
 values_all first now at tags props k each le e =
     subst (λ (l : List (ℕ × Prop)). now ≡ with_streams first at (flat_map tagged_streams l)) (take_all k (zip tags props) (omega (arith, zip_length tags props each, le))) e
 
-elements_join : (tag kind i : ℕ) (xs : List (List ℕ)) (x : List ℕ) → element_streams tag kind i (xs ++ x ∷ []) ≡ element_streams tag kind i xs ++ (element_name tag (i + length xs), with_null kind x) ∷ []
-elements_join tag kind i [] x = let e : i ≡ i + 0 = omega arith in ap (λ (n : ℕ). (element_name tag n, with_null kind x) ∷ []) e
-elements_join tag kind i (y ∷ ys) x =
-    let e : (i + 1) + length ys ≡ i + length (y ∷ ys) = omega arith in
-    ap (λ (l : Streams). (element_name tag i, with_null kind y) ∷ l)
-    (elements_join tag kind (i + 1) ys x ∙ ap (λ (n : ℕ). element_streams tag kind (i + 1) ys ++ (element_name tag n, with_null kind x) ∷ []) e)
-
-taken_length : {X : Type 0} (xs : List X) (k : ℕ) (x : X) → slice_get xs k ≡ Some x → length (take k xs) ≡ k
-taken_length [] k x at = absurd cc
-taken_length (y ∷ ys) zero x at = refl
-taken_length (y ∷ ys) (suc k) x at = ap suc (taken_length ys k x at)
-
--- one element more
-elements_more : (tag kind : ℕ) (xs : List (List ℕ)) (k : ℕ) (x : List ℕ) → slice_get xs k ≡ Some x → element_streams tag kind 0 (take (k + 1) xs) ≡ element_streams tag kind 0 (take k xs) ++ (element_name tag k, with_null kind x) ∷ []
-elements_more tag kind xs k x at =
-    let e : 0 + length (take k xs) ≡ k = omega (arith, taken_length xs k x at) in
-    ap (element_streams tag kind 0) (taken_at xs k x at)
-    ∙ elements_join tag kind 0 (take k xs) x
-    ∙ ap (λ (n : ℕ). element_streams tag kind 0 (take k xs) ++ (element_name tag n, with_null kind x) ∷ []) e
-
-pub element_added : Steps → (first now last : Listed) (at tag kind k zeros : ℕ) (list : List (List ℕ)) (x name : List ℕ) → slice_get list k ≡ Some x → name ≡ element_name tag k → zeros ≡ null_of kind → now ≡ with_streams first at (element_streams tag kind 0 (take k list)) → last ≡ with_streams now at ((name, x ++ replicate zeros 0) ∷ []) → last ≡ with_streams first at (element_streams tag kind 0 (take (k + 1) list))
-element_added steps first now last at tag kind k zeros list x name is n z e f =
-    let one : Streams = (element_name tag k, with_null kind x) ∷ [] in
-    let same : (name, x ++ replicate zeros 0) ∷ [] ≡ one = λ i. (n i, x ++ replicate (z i) 0) ∷ [] in
-    streams_more steps first now last at (element_streams tag kind 0 (take k list)) one (element_streams tag kind 0 (take (k + 1) list)) (elements_more tag kind list k x is) e (f ∙ ap (with_streams now at) same)
+-- the streams of a row are those of elements
+pub row_is : (tag kind nulls i : ℕ) (list : List (List ℕ)) → nulls ≡ null_of kind → row_streams (value_name tag ++ codes "-") nulls i list ≡ element_streams tag kind i list
+row_is tag kind nulls i [] e = refl
+row_is tag kind nulls i (x ∷ others) e =
+    (λ j. (append_assoc (value_name tag) (codes "-") (hex_digits upper 8 i) j, x ++ replicate (e j) 0) ∷ row_streams (value_name tag ++ codes "-") nulls (i + 1) others)
+    ∙ ap (λ (l : Streams). (element_name tag i, with_null kind x) ∷ l) (row_is tag kind nulls (i + 1) others e)
 
 -- ---- the streams of one value
 

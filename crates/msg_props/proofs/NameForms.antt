@@ -10,7 +10,10 @@ use Rattle.carrier_model.specs.Lookups.{Found, size_place, size_place_at}
 use Rattle.carrier_model.specs.Stores.{PROPERTIES}
 use Rattle.carrier_model.specs.Streams.{Stream}
 use Rattle.msg_model.specs.StreamNames.{value_name, element_name}
-use Rattle.msg_model.proofs.AsciiNames.{numbered_ascii, value_ascii}
+use Rattle.msg_model.proofs.AsciiNames.{all_ascii, numbered_ascii, value_ascii}
+
+pub front_ascii : (tag : ℕ) → IsAscii (value_name tag ++ codes "-")
+front_ascii tag = IsAscii-append (value_name tag) (codes "-") (value_ascii tag) (all_ascii (codes "-") refl)
 
 pub element_ascii : (tag k : ℕ) → IsAscii (element_name tag k)
 element_ascii tag k = IsAscii-append (value_name tag) (codes "-" ++ hex_digits upper 8 k) (value_ascii tag) (numbered_ascii (codes "-") k refl)

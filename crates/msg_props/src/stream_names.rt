@@ -1,5 +1,5 @@
 //! Streams of a storage by the names that a tag gives them.
-ghost use Rattle.std.specs.Prelude.{◌≡◌, is_some, true};
+ghost use Rattle.std.specs.Prelude.{◌≡◌, ◌++◌, codes, is_some, true};
 ghost use Rattle.std.specs.Option.{option_map};
 ghost use Rattle.std.specs.Str.{IsAscii};
 ghost use Rattle.carrier_io.specs.Reasons.{fault_of};
@@ -16,12 +16,21 @@ use cfb_sectors::StreamView;
 use msg_nameid::{text_of, value_name};
 use prop_names::upper_digits8;
 
+/// What stands before the number in the names of the streams of a multiple value's elements. [MS-OXMSG 2.1.4]
+pub fn element_front(tag: u32) -> [u8; 21]
+    ensures { result ≡ plain.value_name tag ++ codes "-" }
+{
+    let mut front = [b'-'; 21];
+    front[..20].copy_from_slice(&value_name(tag));
+    front
+}
+
 /// The name of the stream of an element of a multiple value. [MS-OXMSG 2.1.4]
 pub fn element_name(tag: u32, k: u32) -> [u8; 29]
     ensures { result ≡ plain.element_name tag k }
 {
-    let mut name = [b'-'; 29];
-    name[..20].copy_from_slice(&value_name(tag));
+    let mut name = [0; 29];
+    name[..21].copy_from_slice(&element_front(tag));
     name[21..].copy_from_slice(&upper_digits8(k));
     name
 }

@@ -9,7 +9,6 @@ mod Messages
 mod Parts
 mod Rows
 mod Sorting
-mod StorageNames
 mod Turned
 mod Unrolled
 mod WholeFiles

@@ -4,7 +4,6 @@ ghost use Rattle.msg_model.specs.StreamNames as plain;
 ghost use Rattle.msg_model.specs.WrittenMsg.{OBJECT_TAG};
 
 use carrier_io::NoMemory;
-use prop_names::upper_digits8;
 use std::alloc::Global;
 
 /// What the name of a recipient's storage begins with. [MS-OXMSG 2.2.1]
@@ -16,25 +15,15 @@ pub const ATTACHMENT: &[u8] = b"__attach_version1.0_#";
 /// The storage of what an attachment holds. [MS-OXMSG 2.2.2]
 pub const OBJECT: &str = "__substg1.0_3701000D";
 
-/// The name of a recipient's storage. [MS-OXMSG 2.2.1]
-pub fn recipient_name(number: u32) -> [u8; 28]
-    ensures { result ≡ plain.numbered_name plain.RECIPIENT_NAME number }
-{
-    let mut name = [0; 28];
-    name[..20].copy_from_slice(RECIPIENT);
-    name[20..].copy_from_slice(&upper_digits8(number));
-    name
-}
+/// What the name of a recipient's storage begins with, in units. [MS-OXMSG 2.2.1]
+pub const RECIPIENT_UNITS: &[u16] = &[
+    95, 95, 114, 101, 99, 105, 112, 95, 118, 101, 114, 115, 105, 111, 110, 49, 46, 48, 95, 35,
+];
 
-/// The name of an attachment's storage. [MS-OXMSG 2.2.2]
-pub fn attachment_name(number: u32) -> [u8; 29]
-    ensures { result ≡ plain.numbered_name plain.ATTACHMENT_NAME number }
-{
-    let mut name = [0; 29];
-    name[..21].copy_from_slice(ATTACHMENT);
-    name[21..].copy_from_slice(&upper_digits8(number));
-    name
-}
+/// What the name of an attachment's storage begins with, in units. [MS-OXMSG 2.2.2]
+pub const ATTACHMENT_UNITS: &[u16] = &[
+    95, 95, 97, 116, 116, 97, 99, 104, 95, 118, 101, 114, 115, 105, 111, 110, 49, 46, 48, 95, 35,
+];
 
 /// The units of the name of the storage of what an attachment holds. [MS-OXMSG 2.2.2]
 pub fn object_units(alloc: Global) -> Result<Vec<u16>, NoMemory>

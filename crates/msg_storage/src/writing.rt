@@ -13,10 +13,10 @@ ghost use Rattle.msg_tree.specs.Keeping.{BodyHasStores, HasStores};
 ghost use Rattle.msg_tree.specs.Meaning.{attached_of, body_of, tree_of};
 ghost use Rattle.msg_tree.specs.Whole.{plain_of};
 
-use crate::names::{OBJECT, attachment_name, object_units, recipient_name};
+use crate::names::{ATTACHMENT_UNITS, OBJECT, RECIPIENT_UNITS, object_units};
 use carrier_io::{Blob, NoMemory};
 use cfb_list::{FileList, grown_lists_are_trees};
-use msg_nameid::{NameMap, text_of};
+use msg_nameid::NameMap;
 use msg_props::{Head, add_props};
 use msg_tree::{Attachment, Body, Message, Recipients, Tree};
 use ole_stores::add_store;
@@ -66,8 +66,7 @@ fn add_recipient<'t, B: Blob>(
     requires known { Known (names_in names.now) (tree.names_in_props props.now) }
     ensures { OnOk result (Adds files.old files.new at (recipient_tree (names_in names.now) number props.now)) }
 {
-    let name = recipient_name(number);
-    let storage = files.add_storage(at, text_of(&name))?;
+    let storage = files.add_numbered_storage(at, RECIPIENT_UNITS, number)?;
     let head = small_head(Part::Recipient);
     add_props(alloc, files, storage, head, props, None, names)
 }
@@ -162,8 +161,7 @@ fn add_attachment<'t, B: Blob>(
     requires stores { BodyHasStores (attached_of B.bytes attachment.now).1 }
     ensures { OnOk result (Adds files.old files.new at (attachment_tree (names_in names.now) number (attached_of B.bytes attachment.now))) }
 {
-    let name = attachment_name(number);
-    let storage = files.add_storage(at, text_of(&name))?;
+    let storage = files.add_numbered_storage(at, ATTACHMENT_UNITS, number)?;
     add_attached(alloc, files, storage, attachment, names)
 }
 

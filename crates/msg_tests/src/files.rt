@@ -1,7 +1,7 @@
 //! Small compound files, and what is in a list of files.
 use carrier_io::{Blob, Stop, Walk};
 use cfb_directory::{Files, open_files};
-use cfb_list::{Content, File, Kind};
+use cfb_list::{ContentView, File, KindView, NameView, numbered_units};
 use std::alloc::{AllocError, Global};
 
 /// A link or a sector that is none.
@@ -78,14 +78,31 @@ pub fn opened(alloc: Global, bytes: &[u8]) -> Result<Files<'_>, Stop> {
 /// What a stream has: bytes of its own, or those of a value with so many zeros behind them.
 pub type Held<'h> = (&'h [u8], Option<u8>);
 
-/// Whether a file is a stream of this name that has this.
-pub fn is_stream<B: Blob>(file: &File<'_, B>, name: &str, held: Held<'_>) -> bool {
-    name.encode_utf16().eq(file.name.iter().copied())
-        && match &file.kind {
-            Kind::Stream(Content::Own(bytes)) => held.1 == None && bytes.as_slice() == held.0,
-            Kind::Stream(Content::Value { bytes, zeros }) => {
-                held.1 == Some(*zeros) && bytes.pieces() == 1 && bytes.piece(0) == held.0
+/// Whether a name is this one.
+fn is_name(view: NameView<'_>, name: &str) -> bool {
+    match view {
+        NameView::Whole(units) => name.encode_utf16().eq(units.iter().copied()),
+        NameView::Numbered { front, number } => {
+            if front.len() > 23 {
+                return false;
             }
-            _ => false,
+            let (units, len) = numbered_units(front, number);
+            name.encode_utf16().eq(units[..len].iter().copied())
+        }
+    }
+}
+
+/// Whether a file is one stream, of this name, that has this.
+pub fn is_stream<B: Blob>(file: &File<'_, B>, name: &str, held: Held<'_>) -> bool {
+    if file.count() != 1 {
+        return false;
+    }
+    is_name(file.name_at(0), name)
+        && match file.kind_at(0) {
+            KindView::Stream(ContentView::Own(bytes)) => held.1 == None && bytes == held.0,
+            KindView::Stream(ContentView::Value { bytes, zeros }) => {
+                held.1 == Some(zeros) && bytes.pieces() == 1 && bytes.piece(0) == held.0
+            }
+            KindView::Storage { .. } => false,
         }
 }

@@ -1,5 +1,6 @@
 use Rattle.std.proofs.Common.{◌≡◌, ◌+◌, ◌∷◌, drop, refl, ap, arith}
 use Rattle.carrier_model.specs.Layout.{words_bytes, stream_words, run_words}
+use Rattle.cfb_list.specs.Contents.{name_seen}
 use Rattle.cfb_writer.specs.Entered.{slot_seen}
 use Rattle.cfb_writer.specs.Laid.{bytes_of}
 use Rattle.cfb_writer.specs.Shares.{streams_of, share_pieces, share_total}
@@ -18,7 +19,7 @@ overflow_cast-pieces g c =
     let s = slot_seen g.B.Blob.bytes e in
     let n = c.pieces_of-pieces.result in
     let at : drop k others ≡ s ∷ drop (k + 1) others = entry_then others k s c.entry.ensures in
-    let is : n ≡ share_pieces c.args.share c.args.size (bytes_of s) = c.pieces_of-pieces.ensures e.file.now.name.items e.left e.right e.child in
+    let is : n ≡ share_pieces c.args.share c.args.size (bytes_of s) = c.pieces_of-pieces.ensures (name_seen e.file.name) e.left e.right e.child in
     let total : share_total c.args.share c.args.size (drop k others) ≡ n + share_total c.args.share c.args.size (drop (k + 1) others) = omega (arith, is, ap (share_total c.args.share c.args.size) at, total_then c.args.share c.args.size s (drop (k + 1) others)) in
     omega (arith, c.loop-k.invariant.1, total, c.requires.few)
 
@@ -30,7 +31,7 @@ append_run-requires g c =
     let s = slot_seen g.B.Blob.bytes e in
     let n = c.pieces_of-pieces.result in
     let at : drop k others ≡ s ∷ drop (k + 1) others = entry_then others k s c.entry.ensures in
-    let is : n ≡ share_pieces c.args.share c.args.size (bytes_of s) = c.pieces_of-pieces.ensures e.file.now.name.items e.left e.right e.child in
+    let is : n ≡ share_pieces c.args.share c.args.size (bytes_of s) = c.pieces_of-pieces.ensures (name_seen e.file.name) e.left e.right e.child in
     let total : share_total c.args.share c.args.size (drop k others) ≡ n + share_total c.args.share c.args.size (drop (k + 1) others) = omega (arith, is, ap (share_total c.args.share c.args.size) at, total_then c.args.share c.args.size s (drop (k + 1) others)) in
     omega (arith, c.loop-k.invariant.1, total, c.requires.few)
 
@@ -42,7 +43,7 @@ overflow_add-next g c =
     let s = slot_seen g.B.Blob.bytes e in
     let n = c.pieces_of-pieces.result in
     let at : drop k others ≡ s ∷ drop (k + 1) others = entry_then others k s c.entry.ensures in
-    let is : n ≡ share_pieces c.args.share c.args.size (bytes_of s) = c.pieces_of-pieces.ensures e.file.now.name.items e.left e.right e.child in
+    let is : n ≡ share_pieces c.args.share c.args.size (bytes_of s) = c.pieces_of-pieces.ensures (name_seen e.file.name) e.left e.right e.child in
     let total : share_total c.args.share c.args.size (drop k others) ≡ n + share_total c.args.share c.args.size (drop (k + 1) others) = omega (arith, is, ap (share_total c.args.share c.args.size) at, total_then c.args.share c.args.size s (drop (k + 1) others)) in
     omega (arith, c.loop-k.invariant.1, total, c.requires.few)
 
@@ -54,7 +55,7 @@ returns-in_err-sum g c =
     let s = slot_seen g.B.Blob.bytes e in
     let n = c.pieces_of-pieces.result in
     let at : drop k others ≡ s ∷ drop (k + 1) others = entry_then others k s c.entry.ensures in
-    let is : n ≡ share_pieces c.args.share c.args.size (bytes_of s) = c.pieces_of-pieces.ensures e.file.now.name.items e.left e.right e.child in
+    let is : n ≡ share_pieces c.args.share c.args.size (bytes_of s) = c.pieces_of-pieces.ensures (name_seen e.file.name) e.left e.right e.child in
     let total : share_total c.args.share c.args.size (drop k others) ≡ n + share_total c.args.share c.args.size (drop (k + 1) others) = omega (arith, is, ap (share_total c.args.share c.args.size) at, total_then c.args.share c.args.size s (drop (k + 1) others)) in
     going_stops (words_bytes (run_words c.loop-k.next n)) (words_bytes (stream_words c.args.size (c.loop-k.next + n) (streams_of c.args.share (drop (k + 1) others)))) (words_then c.args.share c.args.size c.loop-k.next n (drop k others) s (drop (k + 1) others) at is) c.from_residual.ensures.0 c.loop-k.invariant.0 c.in_err-sum.ensures
 
@@ -66,6 +67,6 @@ loop-k-preserved g c =
     let s = slot_seen g.B.Blob.bytes e in
     let n = c.pieces_of-pieces.result in
     let at : drop k others ≡ s ∷ drop (k + 1) others = entry_then others k s c.entry.ensures in
-    let is : n ≡ share_pieces c.args.share c.args.size (bytes_of s) = c.pieces_of-pieces.ensures e.file.now.name.items e.left e.right e.child in
+    let is : n ≡ share_pieces c.args.share c.args.size (bytes_of s) = c.pieces_of-pieces.ensures (name_seen e.file.name) e.left e.right e.child in
     let total : share_total c.args.share c.args.size (drop k others) ≡ n + share_total c.args.share c.args.size (drop (k + 1) others) = omega (arith, is, ap (share_total c.args.share c.args.size) at, total_then c.args.share c.args.size s (drop (k + 1) others)) in
     (going_more _ (words_bytes (run_words c.loop-k.next n)) (words_bytes (stream_words c.args.size (c.loop-k.next + n) (streams_of c.args.share (drop (k + 1) others)))) (words_then c.args.share c.args.size c.loop-k.next n (drop k others) s (drop (k + 1) others) at is) refl c.loop-k.invariant.0 c.in_ok-sum.ensures, omega (arith, c.loop-k.invariant.1, total))

@@ -1,14 +1,14 @@
 use Rattle.std.proofs.Common.{◌-◌, ◌*◌, ℕ, length, ap}
 use Rattle.std.specs.Prelude.{replicate}
 use Rattle.carrier_model.specs.Layout.{pieces}
-use Rattle.cfb_list.specs.Contents.{content_bytes}
+use Rattle.cfb_list.specs.Contents.{bytes_seen}
 use Rattle.cfb_writer.proofs.Going.{as_bytes}
 use Rattle.carrier_io.proofs.Summed.{sums_first, sums_second}
 use Rattle.cfb_writer.proofs.streams.append_filled.Goals as goal
 
 pub returns-in_err-bytes : goal.returns-in_err-bytes
 returns-in_err-bytes g c =
-    let x = content_bytes g.B.Blob.bytes c.args.content.now in
+    let x = bytes_seen g.B.Blob.bytes c.args.content.now in
     sums_first (replicate {A = ℕ} (pieces c.args.size x * c.args.size - length x) 0) c.from_residual.ensures.0 c.in_err-bytes.ensures
 
 pub returns-in_err-zeros : goal.returns-in_err-zeros

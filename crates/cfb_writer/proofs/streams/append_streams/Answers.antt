@@ -1,6 +1,7 @@
 use Rattle.std.proofs.Common.{◌+◌, drop, refl}
 use Rattle.std.specs.List.{flat_map}
 use Rattle.carrier_model.specs.Layout.{filled}
+use Rattle.cfb_list.specs.Contents.{name_seen}
 use Rattle.cfb_writer.specs.Entered.{slot_seen}
 use Rattle.cfb_writer.specs.Laid.{bytes_of}
 use Rattle.cfb_writer.specs.Shares.{streams_of, share_bytes}
@@ -17,7 +18,7 @@ returns-in_err-sum g c =
     let k = c.loop-k.k in
     let e = c.entry-entry.result in
     let s = slot_seen g.B.Blob.bytes e in
-    going_stops (share_bytes c.args.share c.args.size (bytes_of s)) (flat_map (filled c.args.size) (streams_of c.args.share (drop (k + 1) others))) (bytes_then c.args.share c.args.size (drop k others) s (drop (k + 1) others) (entry_then others k s c.entry-entry.ensures)) c.from_residual.ensures.0 c.loop-k.invariant (c.in_err-sum.ensures e.file.now.name.items e.left e.right e.child)
+    going_stops (share_bytes c.args.share c.args.size (bytes_of s)) (flat_map (filled c.args.size) (streams_of c.args.share (drop (k + 1) others))) (bytes_then c.args.share c.args.size (drop k others) s (drop (k + 1) others) (entry_then others k s c.entry-entry.ensures)) c.from_residual.ensures.0 c.loop-k.invariant (c.in_err-sum.ensures (name_seen e.file.name) e.left e.right e.child)
 
 pub loop-k-preserved : goal.loop-k-preserved
 loop-k-preserved g c =
@@ -25,4 +26,4 @@ loop-k-preserved g c =
     let k = c.loop-k.k in
     let e = c.entry-entry.result in
     let s = slot_seen g.B.Blob.bytes e in
-    going_more _ (share_bytes c.args.share c.args.size (bytes_of s)) (flat_map (filled c.args.size) (streams_of c.args.share (drop (k + 1) others))) (bytes_then c.args.share c.args.size (drop k others) s (drop (k + 1) others) (entry_then others k s c.entry-entry.ensures)) refl c.loop-k.invariant (c.in_ok-sum.ensures e.file.now.name.items e.left e.right e.child)
+    going_more _ (share_bytes c.args.share c.args.size (bytes_of s)) (flat_map (filled c.args.size) (streams_of c.args.share (drop (k + 1) others))) (bytes_then c.args.share c.args.size (drop k others) s (drop (k + 1) others) (entry_then others k s c.entry-entry.ensures)) refl c.loop-k.invariant (c.in_ok-sum.ensures (name_seen e.file.name) e.left e.right e.child)

@@ -1,4 +1,4 @@
-use Rattle.std.proofs.Common.{List, ℕ, ◌-◌, [], ◌∷◌, ap, sym, ◌∙◌}
+use Rattle.std.proofs.Common.{List, ℕ, ◌-◌, [], ◌∷◌, ap, refl, sym, ◌∙◌}
 use Rattle.std.proofs.lemmas.List.{append-nil}
 use Rattle.msg_model.specs.StreamNames.{value_name}
 use Rattle.msg_model.specs.WrittenMsg.{value_streams, element_streams}
@@ -10,35 +10,35 @@ use Rattle.msg_props.proofs.write_streams.add_value.Goals as goal
 pub returns-in_ok-bytes-in-Guid : goal.returns-in_ok-bytes-in-Guid
 returns-in_ok-bytes-in-Guid g c =
     let tag = c.args.tag in
-    one_stream c.add_stream.result c.args.files.now _ c.args.at tag c.text_of-text.result.now _ _
+    one_stream c.add_numbered_stream.result c.args.files.now _ c.args.at tag (value_name tag) _ _
     (ap (λ v. value_streams tag (value_of g.B.Blob.bytes v)) c.in-Guid.is ∙ ap (λ (b : List ℕ). (value_name tag, b) ∷ []) (sym c.in_ok-bytes-in-Guid.ensures.items))
-    (c.text_of-text.ensures.bytes ∙ c.value_name-name.ensures.name) c.add_stream.ensures.ok
+    refl c.add_numbered_stream.ensures.ok
 
 pub returns-in-Bytes : goal.returns-in-Bytes
 returns-in-Bytes g c =
     let tag = c.args.tag in
-    one_stream c.add_stream-in-Bytes.result c.args.files.now _ c.args.at tag c.text_of-text.result.now _ _
+    one_stream c.add_numbered_stream-in-Bytes.result c.args.files.now _ c.args.at tag (value_name tag) _ _
     (ap (λ v. value_streams tag (value_of g.B.Blob.bytes v)) c.in-Bytes.is ∙ ap (λ (b : List ℕ). (value_name tag, b) ∷ []) (sym (append-nil (g.B.Blob.bytes c.in-Bytes.bytes))))
-    (c.text_of-text.ensures.bytes ∙ c.value_name-name.ensures.name) c.add_stream-in-Bytes.ensures.ok
+    refl c.add_numbered_stream-in-Bytes.ensures.ok
 
 pub returns-in_ok-bytes-in-Numbers : goal.returns-in_ok-bytes-in-Numbers
 returns-in_ok-bytes-in-Numbers g c =
     let tag = c.args.tag in
-    one_stream c.add_stream-in-Numbers.result c.args.files.now _ c.args.at tag c.text_of-text.result.now _ _
+    one_stream c.add_numbered_stream-in-Numbers.result c.args.files.now _ c.args.at tag (value_name tag) _ _
     (ap (λ v. value_streams tag (value_of g.B.Blob.bytes v)) c.in-Numbers.is ∙ ap (λ (b : List ℕ). (value_name tag, b) ∷ []) (sym c.in_ok-bytes-in-Numbers.ensures))
-    (c.text_of-text.ensures.bytes ∙ c.value_name-name.ensures.name) c.add_stream-in-Numbers.ensures.ok
+    refl c.add_numbered_stream-in-Numbers.ensures.ok
 
 pub returns-in_ok-bytes-in-Guids : goal.returns-in_ok-bytes-in-Guids
 returns-in_ok-bytes-in-Guids g c =
     let tag = c.args.tag in
-    one_stream c.add_stream-in-Guids.result c.args.files.now _ c.args.at tag c.text_of-text.result.now _ _
+    one_stream c.add_numbered_stream-in-Guids.result c.args.files.now _ c.args.at tag (value_name tag) _ _
     (ap (λ v. value_streams tag (value_of g.B.Blob.bytes v)) c.in-Guids.is ∙ ap (λ (b : List ℕ). (value_name tag, b) ∷ []) (sym c.in_ok-bytes-in-Guids.ensures))
-    (c.text_of-text.ensures.bytes ∙ c.value_name-name.ensures.name) c.add_stream-in-Guids.ensures.ok
+    refl c.add_numbered_stream-in-Guids.ensures.ok
 
-pub returns-in_ok-add_stream-in-Parts : goal.returns-in_ok-add_stream-in-Parts
-returns-in_ok-add_stream-in-Parts g c =
+pub returns-in_ok-add_numbered_stream-in-Parts : goal.returns-in_ok-add_numbered_stream-in-Parts
+returns-in_ok-add_numbered_stream-in-Parts g c =
     let tag = c.args.tag in
     let others = element_streams tag (kind_number c.in-Parts.kind - 0x1000) 0 c.in-Parts.list in
-    stream_before c.add_elements.result c.args.files.now _ _ c.args.at tag c.text_of-text.result.now _ others _
+    stream_before c.add_elements.result c.args.files.now _ _ c.args.at tag (value_name tag) _ others _
     (ap (λ v. value_streams tag (value_of g.B.Blob.bytes v)) c.in-Parts.is ∙ ap (λ (b : List ℕ). (value_name tag, b) ∷ others) (sym c.in_ok-bytes-in-Parts.ensures))
-    (c.text_of-text.ensures.bytes ∙ c.value_name-name.ensures.name) c.in_ok-add_stream-in-Parts.ensures.ok c.add_elements.ensures
+    refl c.in_ok-add_numbered_stream-in-Parts.ensures.ok c.add_elements.ensures

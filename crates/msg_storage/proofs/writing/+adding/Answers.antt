@@ -14,15 +14,11 @@ use Rattle.msg_storage.specs.Written.{Adds, attachment_tree, is_top}
 use Rattle.msg_storage.proofs.Adding.{adds_two, adds_within, attachment_few, attachment_known, attachment_stores, attachments_taken, told_storage}
 use Rattle.msg_storage.proofs.Bodies.{message_made}
 use Rattle.msg_storage.proofs.Parts.{attachment_named, below_named, body_is, body_named, depth_below, few_attachments, few_below, files_told, recipients_named, stores_below}
-use Rattle.msg_storage.proofs.StorageNames.{attachment_ascii}
 use Rattle.msg_tree.specs.Keeping.{BodyHasStores}
 use Rattle.msg_tree.specs.Meaning.{attached_of, body_of, list_of, tree_of}
 use Rattle.msg_tree.specs.declared.messages.Attachment.{out-Attachment}
 use Rattle.msg_tree.specs.declared.messages.Message.{out-Message}
 use Rattle.msg_storage.proofs.writing.+adding.Goals as goal
-
-pub add_attachment-text_of-requires : goal.add_attachment-text_of-requires
-add_attachment-text_of-requires g t c = subst IsAscii (sym c.attachment_name-name.ensures) (attachment_ascii c.args.number)
 
 pub add_attached-add_props-requires-clause-named : goal.add_attached-add_props-requires-clause-named
 add_attached-add_props-requires-clause-named g t c = attachment_named g.B.Blob.bytes c.args.attachment.now (names_in c.args.names.now) c.requires.known

@@ -1,6 +1,6 @@
 use Rattle.std.proofs.Common.{◌≡◌, ◌∷◌, ◌++◌, [], ℕ, List, length, sym, ap, subst, ◌∙◌, rules}
 use Rattle.std.proofs.lemmas.List.{length-map}
-use Rattle.cfb_list.specs.Contents.{children_of}
+use Rattle.cfb_list.specs.Contents.{children_of, name_units}
 use Rattle.cfb_list.specs.Listed.{Listed, Child, storage, with_child}
 use Rattle.cfb_list.proofs.Soundness.{child_of_front}
 use Rattle.cfb_list.proofs.list.FileList.put_storage.Goals as goal
@@ -8,7 +8,7 @@ use Rattle.cfb_list.proofs.list.FileList.put_storage.Goals as goal
 pub returns-in-Ok-clause-ok : goal.returns-in-Ok-clause-ok
 returns-in-Ok-clause-ok g c =
     let now = c.args.self.now in
-    let name = c.args.name.items in
+    let name = name_units c.args.name in
     let long : c.len-number.result ≡ length c.self.inside.storages.items = search rules in
     let number : c.len-number.result ≡ length now.storages = long ∙ sym (length-map c.self.inside.storages.items (children_of g.B.Blob.bytes)) ∙ ap (λ (l : Listed). length l.storages) c.self.view_is in
     let there = subst (λ (l : Listed). ◌≡◌ {A = Listed} c.add.new.self (record { root_class = l.root_class; storages = with_child l.storages c.args.parent (storage name c.args.class c.len-number.result) })) c.in_ok-add_empty.ensures.ok c.in-Ok.ensures.ok in

@@ -1,7 +1,7 @@
 use Rattle.std.proofs.Common.{◌<◌, ◌+◌, ◌*◌, ◌-◌, ◌%◌, ℕ, sym, ap, ◌∙◌, arith}
 use Rattle.std.specs.Int.{div_ceil}
 use Rattle.cfb_list.proofs.Divided.{rest_past, missing_none, missing_some}
-use Rattle.cfb_list.proofs.content.Content.missing.Goals as goal
+use Rattle.cfb_list.proofs.views.ContentView.missing.Goals as goal
 
 pub returns-then-past-eq0 : goal.returns-then-past-eq0
 returns-then-past-eq0 g c =

@@ -1,7 +1,7 @@
 use Rattle.std.proofs.Common.{◌<◌, ◌+◌, ◌/◌, ◌%◌, ℕ, ap, ◌∙◌, arith}
 use Rattle.std.specs.Int.{div_ceil}
 use Rattle.cfb_list.proofs.Divided.{ceil_past}
-use Rattle.cfb_list.proofs.content.Content.pieces.Goals as goal
+use Rattle.cfb_list.proofs.views.ContentView.pieces.Goals as goal
 
 pub overflow_add-len : goal.overflow_add-len
 overflow_add-len g c = let r : c.parts-len.result.0 % c.args.size < c.args.size = omega (arith, c.requires.some) in omega (arith, r, c.requires.few, c.parts-len.ensures.few)
