@@ -5,8 +5,8 @@
     bench/others.py FOLDER...         all .msg files, TNEF streams and mails with one below the folders
 
 Each line has what was looked at, how often it was so, and how often it was looked at; then come the files of which a
-line isn't so, with the program's report. Of the programs `7z`, `gsf`, `tnef`, `ytnef` and
-`msgconvert` those are run that are there, and the library olefile, where the Python that runs this has it.
+line isn't so, with the program's report. Of the programs `7z`, `gsf`, `tnef`, `ytnef`, `ytnefprint` and `msgconvert`
+those are run that are there, and the library olefile, where the Python that runs this has it.
 """
 
 import argparse
@@ -31,7 +31,8 @@ except ImportError:
 FILE, STREAM = b"\xd0\xcf\x11\xe0", b"\x78\x9f\x3e\x22"
 VALUE = "__substg1.0_"
 ACCEPTED = "files that are accepted"
-ROUND = (["to-msg4", "to-msg"], ["to-tnef", "to-msg"], ["to-tnef", "wrap", "unwrap", "to-msg"], ["to-json", "from-json"])
+ROUND = (["to-msg4", "to-msg"], ["to-tnef", "to-msg"], ["to-tnef", "wrap", "unwrap", "to-msg"],
+         ["to-json", "from-json"])
 
 
 class Looks:
@@ -91,15 +92,25 @@ def mail_of(given):
     return [re.sub(rb"\d{9,}\.[0-9A-Za-z]+\.\d+", b"", it) for it in made]
 
 
-def look_by_others(looks, path, given, message, stream):
-    """What other programs make of a message's file and its stream."""
+def properties_told(stream):
+    """How many properties of a message ytnefprint tells of; None where it gives up before."""
+    with tempfile.NamedTemporaryFile() as source:
+        source.write(stream)
+        source.flush()
+        told = subprocess.run(["ytnefprint", source.name], capture_output=True).stdout
+    found = re.search(rb"MAPI Properties: (\d+)", told)
+    return int(found[1]) if found else None
+
+
+def look_at_file(looks, path, given, message):
+    """What other programs make of the .msg files of a message."""
     newer = looks.through(["to-msg4"], given)
-    for tool in filter(shutil.which, ("7z", "gsf")):
-        for made, version in ((message, 3), (newer, 4)):
+    for tool, word in (("7z", "l"), ("gsf", "list")):
+        for made, version in ((message, 3), (newer, 4)) if shutil.which(tool) else ():
             with tempfile.NamedTemporaryFile(suffix=".msg") as target:
                 target.write(made)
                 target.flush()
-                ended = subprocess.run([tool, "l" if tool == "7z" else "list", target.name], capture_output=True)
+                ended = subprocess.run([tool, word, target.name], capture_output=True)
             looks.note(f"{tool} lists the file of version {version}", path, ended.returncode == 0)
     if olefile:
         ours = values(message)
@@ -107,16 +118,25 @@ def look_by_others(looks, path, given, message, stream):
         if given[:4] == FILE:
             theirs = values(given)
             same = sum(ours.get(it) == theirs[it] for it in theirs)
-            looks.note("streams of values of .msg files that olefile finds again, byte for byte", path, same, len(theirs))
+            what = "streams of values of .msg files that olefile finds again, byte for byte"
+            looks.note(what, path, same, len(theirs))
     if given[:4] == FILE and shutil.which("msgconvert"):
-        looks.note("msgconvert makes one mail of a .msg file and of its canonical one", path, mail_of(given) == mail_of(message))
-    parts = attached(looks.through(["to-json"], given))
+        is_one = mail_of(given) == mail_of(message)
+        looks.note("msgconvert makes one mail of a .msg file and of its canonical one", path, is_one)
+
+
+def look_at_stream(looks, path, given, stream):
+    """What other programs make of the canonical stream of a message, and of the stream that it came in."""
+    text = looks.through(["to-json"], given)
+    parts = attached(text)
     for tool, words in (("tnef", ["tnef", "--number-backups", "-f"]), ("ytnef", ["ytnef", "-f", "."])):
-        if shutil.which(tool):
-            for made, what in ((stream, "the canonical stream"), (given, "the stream as it came")):
-                if made[:4] == STREAM:
-                    found = (saved(words, "winmail.dat", made) & parts).total()
-                    looks.note(f"attachments that {tool} saves from {what}", path, found, parts.total())
+        for made, what in ((stream, "the canonical stream"), (given, "the stream as it came")):
+            if made[:4] == STREAM and shutil.which(tool):
+                found = (saved(words, "winmail.dat", made) & parts).total()
+                looks.note(f"attachments that {tool} saves from {what}", path, found, parts.total())
+    if shutil.which("ytnefprint"):
+        is_whole = properties_told(stream) == len(json.loads(text)["properties"])
+        looks.note("ytnefprint tells of all properties of the message, in the canonical stream", path, is_whole)
 
 
 def look(looks, path, given):
@@ -133,7 +153,8 @@ def look(looks, path, given):
     ended = looks.run("to-unicode", given)
     looks.reports[path] = ended.stderr.decode().strip()
     looks.note("to-unicode ends with success", path, ended.returncode == 0)
-    look_by_others(looks, path, given, message, looks.through(["to-tnef"], given))
+    look_at_file(looks, path, given, message)
+    look_at_stream(looks, path, given, looks.through(["to-tnef"], given))
 
 
 def carried(given):
@@ -157,7 +178,8 @@ def main():
         elif stream := carried(given):
             look(looks, path, stream)
             if (ACCEPTED, path) not in looks.failed:
-                looks.note("unwrap gives the stream that Python's library finds in a mail", path, looks.through(["unwrap"], given) == stream)
+                is_same = looks.through(["unwrap"], given) == stream
+                looks.note("unwrap gives the stream that Python's library finds in a mail", path, is_same)
     print("| What | so | of |\n|---|---|---|")
     for what, (so, count) in looks.counts.items():
         print(f"| {what} | {so} | {count} |")
