@@ -28,7 +28,7 @@ module _ {B : Type 0} (of : B → List ℕ) where
   row_at front nulls n (x ∷ xs) (suc k) d lt = let e : n + 1 + k ≡ n + suc k = omega arith in row_at front nulls (n + 1) xs k d (omega (arith, lt)) ∙ ap (λ (m : ℕ). stream (front ++ hex_digits upper 8 m) (of (get_or xs k d) ++ replicate nulls 0)) e
 
   -- a file that is a row
-  module _ (file : File B) (front : Vec ℕ Global) (list : Bor (List B)) (nulls : ℕ) (is : file ≡ Row front list nulls) where
+  module _ (file : File B) (front : Vec ℕ Global) (list : Bor (List B)) (nulls : ℕ) (is : file ≡ Row nulls front list) where
     children : file_children of file ≡ map stream_of (row_streams front.items nulls 0 (map of list.now))
     children = ap (file_children of) is
 

@@ -1,9 +1,12 @@
 -- What streams and storages stand for.
-use Rattle.std.specs.Prelude.{ℕ, ◌+◌, List, [], ◌∷◌, ◌++◌, flat_map, map, replicate}
+use Rattle.std.specs.Prelude.{ℕ, ◌+◌, List, [], ◌∷◌, ◌++◌, flat_map, map, replicate, take}
 use Rattle.carrier_model.specs.KeyTexts.{hex_digits, upper}
 use Rattle.cfb_list.specs.Listed.{Child, stream, storage}
 use Rattle.cfb_list.specs.declared.content.Content.{Content}
 use Rattle.cfb_list.specs.declared.content.Content.TheVariants.{Own, Value}
+use Rattle.cfb_list.specs.declared.content.Kept.{Kept}
+use Rattle.cfb_list.specs.declared.content.Kept.TheVariants.{Few, Own as OwnKept, Value as ValueKept}
+use Rattle.cfb_list.specs.declared.few_bytes.FewBytes.{FewBytes}
 use Rattle.cfb_list.specs.declared.content.File.{File}
 use Rattle.cfb_list.specs.declared.content.File.TheVariants.{Stream, Row, Storage as StorageFile}
 use Rattle.cfb_list.specs.declared.content.Name.{Name}
@@ -23,6 +26,14 @@ abbrev pub content_bytes : {B : Type 0} → (B → List ℕ) → Content B → L
 content_bytes of (Own bytes) = bytes.items
 content_bytes of (Value bytes zeros) = of bytes.now ++ replicate zeros 0
 
+abbrev pub few_items : FewBytes → List ℕ
+few_items few = take few.len few.bytes
+
+abbrev pub kept_bytes : {B : Type 0} → (B → List ℕ) → Kept B → List ℕ
+kept_bytes of (Few few) = few_items few
+kept_bytes of (OwnKept bytes) = bytes.value.items
+kept_bytes of (ValueKept zeros bytes) = of bytes.now ++ replicate zeros 0
+
 -- the streams of values from one number on, each named by a front and its number in eight digits, with so many zeros
 -- behind its bytes
 abbrev pub row_streams : List ℕ → ℕ → ℕ → List (List ℕ) → List (List ℕ × List ℕ)
@@ -33,13 +44,13 @@ abbrev pub stream_of : List ℕ × List ℕ → Child
 stream_of s = stream s.0 s.1
 
 abbrev pub name_units : Name → List ℕ
-name_units (OwnName units) = units.items
-name_units (NumberedName front number) = front.now ++ hex_digits upper 8 number
+name_units (OwnName units) = units.value.items
+name_units (NumberedName number front) = front.now ++ hex_digits upper 8 number
 
 abbrev pub file_children : {B : Type 0} → (B → List ℕ) → File B → List Child
-file_children of (Stream name content) = stream (name_units name) (content_bytes of content) ∷ []
-file_children of (Row front list zeros) = map stream_of (row_streams front.items zeros 0 (map of list.now))
-file_children of (StorageFile name class number) = storage (name_units name) class number ∷ []
+file_children of (Stream name content) = stream (name_units name) (kept_bytes of content) ∷ []
+file_children of (Row zeros front list) = map stream_of (row_streams front.items zeros 0 (map of list.now))
+file_children of (StorageFile number name class) = storage (name_units name) class number ∷ []
 
 abbrev pub children_of : {B : Type 0} → (B → List ℕ) → Storage B → List Child
 children_of of s = flat_map (file_children of) s.files.items

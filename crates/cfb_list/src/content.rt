@@ -1,8 +1,12 @@
 //! What is in a storage, as it was added.
-ghost use Rattle.std.specs.Prelude.{◌≡◌, ◌<◌, ◌≤◌, length};
+ghost use Rattle.std.specs.Prelude.{◌≡◌, ◌<◌, ◌≤◌, length, IfOk};
+ghost use Rattle.carrier_model.specs.FileTrees.{sibling_cmp};
 
-use crate::views::{ContentView, FileView, KindView, NameView};
-use carrier_io::Blob;
+use crate::few_bytes::FewBytes;
+use crate::views::{ContentView, FileView, KindView, NameView, name_order};
+use carrier_io::{Blob, NoMemory};
+use std::alloc::Global;
+use std::cmp::Ordering;
 
 /// The bytes of a stream. [MS-CFB 2.6.1, 2.6.3]
 #[derive(Drop)]
@@ -13,32 +17,43 @@ pub enum Content<'t, B: Blob> {
     Value { bytes: &'t B, zeros: u8 },
 }
 
+/// The bytes of a stream as a list keeps them, in 16 bytes: most streams are small, and there may be millions of them.
+#[derive(Drop)]
+pub enum Kept<'t, B: Blob> {
+    /// Few bytes of its own.
+    Few(FewBytes),
+    /// Bytes of its own.
+    Own(Box<Vec<u8>>),
+    /// The bytes of a value, and so many zeros behind them.
+    Value { zeros: u8, bytes: &'t B },
+}
+
 /// The units of a name.
 #[derive(Drop)]
 pub enum Name<'t> {
     /// Units of its own.
-    Own(Vec<u16>),
-    /// Units that stand elsewhere, in front of a number, and the number, in eight upper-case hexadecimal digits.
-    Numbered { front: &'t [u16], number: u32 },
+    Own(Box<Vec<u16>>),
+    /// A number, in eight upper-case hexadecimal digits, and the units in front of it, which stand elsewhere.
+    Numbered { number: u32, front: &'t [u16] },
 }
 
-/// A stream; a storage with its class and its number; or a row of values, each with so many zeros behind it, that become a
-/// stream each, named by a front and a number.
+/// A stream; a row of values, each with so many zeros behind it, that become a stream each, named by a front and a number; or
+/// a storage with its number and its class.
 #[derive(Drop)]
 pub enum File<'t, B: Blob> {
     Stream {
         name: Name<'t>,
-        content: Content<'t, B>,
+        content: Kept<'t, B>,
     },
     Row {
+        zeros: u8,
         front: Vec<u16>,
         list: &'t [B],
-        zeros: u8,
     },
     Storage {
+        number: u32,
         name: Name<'t>,
         class: [u8; 16],
-        number: usize,
     },
 }
 
@@ -62,16 +77,30 @@ pub struct Storage<'t, B: Blob> {
     pub files: Vec<File<'t, B>>,
 }
 
-impl<'t, B: Blob> Content<'t, B> {
-    ghost use Rattle.cfb_list.specs.Contents.{bytes_seen, content_bytes};
+impl<'t, B: Blob> Kept<'t, B> {
+    ghost use Rattle.cfb_list.specs.Contents.{bytes_seen, content_bytes, kept_bytes};
+
+    /// A content as it is kept. NoMemory says that memory ran out.
+    pub fn of_content(alloc: Global, content: Content<'t, B>) -> Result<Kept<'t, B>, NoMemory>
+        ensures { IfOk result (λ kept. kept_bytes B.bytes kept ≡ content_bytes B.bytes content.entry) }
+    {
+        match content {
+            Content::Own(bytes) => match FewBytes::of_slice(&bytes) {
+                Some(few) => Ok(Kept::Few(few)),
+                None => Ok(Kept::Own(Box::new(alloc, bytes)?)),
+            },
+            Content::Value { bytes, zeros } => Ok(Kept::Value { zeros, bytes }),
+        }
+    }
 
     /// The bytes, to be looked at.
     pub fn view(&self) -> ContentView<'_, B>
-        ensures { bytes_seen B.bytes result ≡ content_bytes B.bytes self.now }
+        ensures { bytes_seen B.bytes result ≡ kept_bytes B.bytes self.now }
     {
         match self {
-            Content::Own(bytes) => ContentView::Own(bytes),
-            Content::Value { bytes, zeros } => ContentView::Value {
+            Kept::Few(few) => ContentView::Own(few.as_slice()),
+            Kept::Own(bytes) => ContentView::Own(bytes.as_slice()),
+            Kept::Value { zeros, bytes } => ContentView::Value {
                 bytes,
                 zeros: *zeros,
             },
@@ -82,13 +111,20 @@ impl<'t, B: Blob> Content<'t, B> {
 impl<'t> Name<'t> {
     ghost use Rattle.cfb_list.specs.Contents.{name_seen, name_units};
 
+    /// A name of these units. NoMemory says that memory ran out.
+    pub fn of_units(alloc: Global, units: Vec<u16>) -> Result<Name<'t>, NoMemory>
+        ensures { IfOk result (λ name. name_units name ≡ units.items) }
+    {
+        Ok(Name::Own(Box::new(alloc, units)?))
+    }
+
     /// The name, to be looked at.
     pub fn view(&self) -> NameView<'_>
         ensures { name_seen result ≡ name_units self.now }
     {
         match self {
-            Name::Own(units) => NameView::Whole(units),
-            Name::Numbered { front, number } => NameView::Numbered {
+            Name::Own(units) => NameView::Whole(units.as_slice()),
+            Name::Numbered { number, front } => NameView::Numbered {
                 front,
                 number: *number,
             },
@@ -127,7 +163,7 @@ impl<'t, B: Blob> File<'t, B> {
             },
             File::Storage { class, number, .. } => KindView::Storage {
                 class: *class,
-                number: *number,
+                number: *number as usize,
             },
         }
     }
@@ -143,6 +179,18 @@ impl<'t, B: Blob> File<'t, B> {
             File::Stream { name, .. } | File::Storage { name, .. } => name.view(),
             File::Row { front, .. } => NameView::Numbered { front, number },
         }
+    }
+
+    /// The order of two of them by their names. Those of a row are in the order of their numbers.
+    pub fn order_of(&self, one: u32, other: u32) -> Ordering
+        ensures { result ≡ sibling_cmp (name_of (get_or (file_children B.bytes self.now) one nothing)) (name_of (get_or (file_children B.bytes self.now) other nothing)) }
+    {
+        if let File::Row { list, .. } = self {
+            if (one as usize) < list.len() && (other as usize) < list.len() {
+                return one.cmp(&other);
+            }
+        }
+        name_order(self.name_at(one), self.name_at(other))
     }
 
     /// The one with this number, with its name.

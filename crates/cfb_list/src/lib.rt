@@ -2,6 +2,7 @@
 #![tactic(auto)]
 
 mod content;
+mod few_bytes;
 mod laws;
 mod list;
 mod sorted;

@@ -3,7 +3,7 @@ ghost use Rattle.std.specs.Prelude.{◌≡◌, ◌<◌, ◌≤◌, ◌∷◌, �
 ghost use Rattle.carrier_model.specs.FileTrees.{NO_CLASS};
 ghost use Rattle.carrier_model.specs.Layout.{MESSAGE_CLASS};
 
-use crate::content::{Content, File, Name, Storage};
+use crate::content::{Content, File, Kept, Name, Storage};
 use crate::sorted::SortedList;
 use carrier_io::{Blob, NoMemory};
 use std::alloc::Global;
@@ -147,10 +147,12 @@ impl<'t, B: Blob> FileList<'t, B> {
         ensures ok { OnOk result (self.new ≡ record self.old { storages = listed.with_child self.old.storages parent (listed.stream (name_units name.entry) (content_bytes B.bytes content.entry)) }) }
         ensures err { OnErr result (self.new ≡ self.old) }
     {
+        let content = Kept::of_content(self.alloc, content)?;
         self.add(parent, File::Stream { name, content })
     }
 
-    /// Adds a storage whose name has these units, with a class, and answers its number.
+    /// Adds a storage whose name has these units, with a class, and answers its number. NoMemory says that memory ran out, or
+    /// that there are more storages than a number of 32 bits tells.
     fn put_storage(
         &mut self,
         parent: usize,
@@ -164,11 +166,14 @@ impl<'t, B: Blob> FileList<'t, B> {
         ensures err { OnErr result (self.new ≡ self.old) }
     {
         let number = self.storages.len();
+        let Ok(told) = u32::try_from(number) else {
+            return Err(NoMemory);
+        };
         self.add_empty()?;
         let file = File::Storage {
+            number: told,
             name,
             class,
-            number,
         };
         match self.add(parent, file) {
             Ok(()) => Ok(number),
@@ -192,7 +197,7 @@ impl<'t, B: Blob> FileList<'t, B> {
         ensures ok { OnOk result (self.new ≡ record self.old { storages = listed.with_child self.old.storages parent (listed.stream name.now (content_bytes B.bytes content.entry)) }) }
         ensures err { OnErr result (self.new ≡ self.old) }
     {
-        let name = Name::Own(name.to_vec(self.alloc)?);
+        let name = Name::of_units(self.alloc, name.to_vec(self.alloc)?)?;
         self.put_stream(parent, name, content)
     }
 
@@ -210,7 +215,7 @@ impl<'t, B: Blob> FileList<'t, B> {
         ensures ok { OnOk result (self.new ≡ record self.old { storages = listed.with_child self.old.storages parent (listed.storage name.now class (length self.old.storages)) ++ [] ∷ [] }) }
         ensures err { OnErr result (self.new ≡ self.old) }
     {
-        let name = Name::Own(name.to_vec(self.alloc)?);
+        let name = Name::of_units(self.alloc, name.to_vec(self.alloc)?)?;
         self.put_storage(parent, name, class)
     }
 
@@ -227,7 +232,7 @@ impl<'t, B: Blob> FileList<'t, B> {
         ensures ok { OnOk result (self.new ≡ record self.old { storages = listed.with_child self.old.storages parent (listed.stream name.now (content_bytes B.bytes content.entry)) }) }
         ensures err { OnErr result (self.new ≡ self.old) }
     {
-        let name = Name::Own(units_of(self.alloc, name)?);
+        let name = Name::of_units(self.alloc, units_of(self.alloc, name)?)?;
         self.put_stream(parent, name, content)
     }
 
@@ -245,7 +250,7 @@ impl<'t, B: Blob> FileList<'t, B> {
         ensures ok { OnOk result (self.new ≡ record self.old { storages = listed.with_child self.old.storages parent (listed.stream (front.now ++ hex_digits upper 8 number) (content_bytes B.bytes content.entry)) }) }
         ensures err { OnErr result (self.new ≡ self.old) }
     {
-        self.put_stream(parent, Name::Numbered { front, number }, content)
+        self.put_stream(parent, Name::Numbered { number, front }, content)
     }
 
     /// Adds a storage without a class to that with a number, by a name that is a front, which stays where it is, and a number
@@ -263,7 +268,7 @@ impl<'t, B: Blob> FileList<'t, B> {
         ensures ok { OnOk result (self.new ≡ record self.old { storages = listed.with_child self.old.storages parent (listed.storage (front.now ++ hex_digits upper 8 number) NO_CLASS (length self.old.storages)) ++ [] ∷ [] }) }
         ensures err { OnErr result (self.new ≡ self.old) }
     {
-        self.put_storage(parent, Name::Numbered { front, number }, [0; 16])
+        self.put_storage(parent, Name::Numbered { number, front }, [0; 16])
     }
 
     /// Adds a stream for each of some values, by a front of ASCII characters before its number, from 0 on, in eight
@@ -282,7 +287,7 @@ impl<'t, B: Blob> FileList<'t, B> {
         ensures err { OnErr result (self.new ≡ self.old) }
     {
         let front = units_of(self.alloc, front)?;
-        self.add(parent, File::Row { front, list, zeros })
+        self.add(parent, File::Row { zeros, front, list })
     }
 
     /// Adds a storage without a class to that with a number, by a name of ASCII characters, and answers its number. After
@@ -294,7 +299,7 @@ impl<'t, B: Blob> FileList<'t, B> {
         ensures ok { OnOk result (self.new ≡ record self.old { storages = listed.with_child self.old.storages parent (listed.storage name.now NO_CLASS (length self.old.storages)) ++ [] ∷ [] }) }
         ensures err { OnErr result (self.new ≡ self.old) }
     {
-        let name = Name::Own(units_of(self.alloc, name)?);
+        let name = Name::of_units(self.alloc, units_of(self.alloc, name)?)?;
         self.put_storage(parent, name, [0; 16])
     }
 }

@@ -32,6 +32,18 @@ fn name_at<'f, 't, B: Blob>(files: &'f [File<'t, B>], place: Place) -> NameView<
     }
 }
 
+/// The order of what is found at two places.
+fn place_order<B: Blob>(files: &[File<'_, B>], one: Place, other: Place) -> Ordering
+    ensures { result ≡ sibling_cmp (name_of (child_at B.bytes files.now one)) (name_of (child_at B.bytes files.now other)) }
+{
+    if one.file == other.file {
+        if let Some(file) = files.get(one.file as usize) {
+            return file.order_of(one.number, other.number);
+        }
+    }
+    name_order(name_at(files, one), name_at(files, other))
+}
+
 /// Appends the places of what a file stands for. NoMemory says that memory ran out, or that there are more than a number
 /// of 32 bits tells.
 fn push_places(places: &mut Vec<Place>, file: u32, count: usize) -> Result<(), NoMemory>
@@ -74,7 +86,7 @@ fn sort_places<B: Blob>(files: &[File<'_, B>], places: &mut Vec<Place>) -> Resul
     places.sort_by(
         |one: &Place, other: &Place| -> Ordering
             ensures { result ≡ sibling_cmp (name_of (child_at B.bytes files.entry.now one.now)) (name_of (child_at B.bytes files.entry.now other.now)) }
-        { name_order(name_at(files, *one), name_at(files, *other)) },
+        { place_order(files, *one, *other) },
     )?;
     Ok(())
 }
