@@ -515,6 +515,18 @@ def map_texts(order, count):
     return msg_with(used, name_storage(inputs.SET, entries, texts))
 
 
+def names_in_many_lists(count):
+    """Recipients with a thousand properties each, of the same hundred names of 255 units."""
+    texts = b"".join(struct.pack("<I", 510) + ("n" * 249 + f"{k:06}").encode("utf-16-le") + b"\0\0" for k in range(100))
+    entries = b"".join(struct.pack("<II", 516 * k, k << 16 | 3 << 1 | 1) for k in range(100))
+    used = b"".join(struct.pack("<IIQ", 0x80000000 | k << 16 | kind, 6, 1) for k in range(100) for kind in WIDTHS)
+    head = bytes(8) + struct.pack("<IIII", count, 0, count, 0) + bytes(8)
+    lists = [Entry(f"__recip_version1.0_#{k:08X}", children=[Entry("__properties_version1.0", bytes(8) + used)])
+             for k in range(count)]
+    top = [Entry("__properties_version1.0", head), name_storage(inputs.SET, entries, texts)]
+    return compound(Entry("Root Entry", children=top + lists))
+
+
 def file_shapes():
     every = READERS
     telling = (["check"], ["to-msg"])
@@ -559,6 +571,7 @@ def file_shapes():
     yield Shape("msg elements in order", functools.partial(present_elements, "rising"), 40_000, every, {})
     yield Shape("msg elements in random order", functools.partial(present_elements, "random"), 40_000, every, {})
     yield Shape("msg names of one text", shared_text, 16_000, every, {})
+    yield Shape("msg names in many lists", names_in_many_lists, 40, every, {})
     yield Shape("msg values, small", inputs.msg_texts, 15_000, every, {})
 
 
