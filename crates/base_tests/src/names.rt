@@ -19,7 +19,9 @@ const OTHER: Guid = Guid([
 ]);
 
 fn text(alloc: Global, set: Guid, units: &[u16]) -> Result<Name, Fail> {
-    let mut list = Units::new(alloc);
+    let mut list = Units::with_capacity(alloc, units.len())
+        .ok()
+        .ok_or("no memory")?;
     for unit in units {
         list.push(*unit).ok().ok_or("no memory")?;
     }

@@ -83,7 +83,7 @@ fn named<B: Blob>(name: Name) -> Prop<B>
 
 /// A list with one property.
 fn listed<B: Blob>(alloc: Global, prop: Prop<B>) -> Result<Props<B>, NoMemory> {
-    let mut props = Props::new(alloc);
+    let mut props = Props::with_capacity(alloc, 1)?;
     match props.insert_sorted(prop) {
         Ok(()) => Ok(props),
         Err(_) => Err(NoMemory),

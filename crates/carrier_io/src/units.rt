@@ -29,6 +29,15 @@ impl Units {
         }
     }
 
+    /// An empty list with room for so many units. NoMemory says that memory ran out.
+    pub fn with_capacity(alloc: Global, capacity: usize) -> Result<Units, NoMemory>
+        ensures { IfOk result (λ list. list ≡ []) }
+    {
+        Ok(Units {
+            list: Vec::with_capacity(alloc, capacity)?,
+        })
+    }
+
     /// Puts a unit behind the others. The list is unchanged where memory is refused.
     pub fn push(&mut self, item: u16) -> Result<(), NoMemory>
         ensures ok { OnOk result (self.new ≡ self.old ++ item ∷ []) }

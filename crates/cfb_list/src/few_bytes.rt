@@ -1,5 +1,5 @@
 //! Few bytes that stand in place.
-ghost use Rattle.std.specs.Prelude.{◌≡◌, ◌≤◌, take, IfSome};
+ghost use Rattle.std.specs.Prelude.{◌≡◌, ◌<◌, ◌≤◌, length, take, IfNone, IfSome};
 
 /// At most 14 bytes.
 #[derive(Clone, Copy)]
@@ -12,9 +12,10 @@ pub struct FewBytes {
 impl FewBytes {
     ghost use Rattle.cfb_list.specs.Contents.{few_items};
 
-    /// These bytes, where they are few.
+    /// These bytes, where they are few; None where they are more.
     pub fn of_slice(slice: &[u8]) -> Option<FewBytes>
-        ensures { IfSome result (λ few. few_items few ≡ slice.now) }
+        ensures few { IfSome result (λ few. few_items few ≡ slice.now) }
+        ensures many { IfNone result (14 < length slice.now) }
     {
         if slice.len() > 14 {
             return None;

@@ -43,7 +43,7 @@ fn units_at(
     ensures units { IfOk result (λ units. units ≡ units_of (take size (drop at (bytes_of texts.now)))) }
     ensures few { IfOk result (λ units. length units ≤ 255) }
 {
-    let mut units = Units::new(alloc);
+    let mut units = Units::with_capacity(alloc, size / 2)?;
     for k in 0..size / 2 {
         units.push(texts.u16_at(at + 2 * k))?;
     }

@@ -90,9 +90,10 @@ fn elements<'a>(
     ensures few { IfOk result (λ p. length p < 0x1000_0000) }
 {
     let step = length_width(kind);
-    let mut list = Parts::new(alloc);
+    let count = sizes.len() / step;
+    let mut list = Parts::with_capacity(alloc, count)?;
     let mut missing = false;
-    for k in 0..sizes.len() / step {
+    for k in 0..count {
         let size = sizes.u32_at(step * k);
         match element(alloc, files, at, entry.tag, single, size, k as u32)? {
             Some(part) => list.push(part)?,

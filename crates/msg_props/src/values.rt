@@ -95,8 +95,9 @@ fn guids_in(alloc: Global, view: &StreamView<'_>) -> Result<Guids, NoMemory>
     ensures list { IfOk result (λ l. l ≡ pieces_of 16 (bytes_of view.now)) }
     ensures fit { IfOk result (λ l. All (λ g. length g ≡ 16) l) }
 {
-    let mut list = Guids::new(alloc);
-    for k in 0..view.len() / 16 {
+    let count = view.len() / 16;
+    let mut list = Guids::with_capacity(alloc, count)?;
+    for k in 0..count {
         let mut set = [0; 16];
         view.copy_range(16 * k, &mut set);
         list.push(Guid(set))?;

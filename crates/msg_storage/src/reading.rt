@@ -66,7 +66,7 @@ fn read_recipients<'a>(
     ensures { GivesBeside rows_beside passed.old passed.new result (recipients_in names.now (storage_seen files.now at)) }
 {
     let storages = storages_in(alloc, files, at, RECIPIENT)?;
-    let mut recipients = Recipients::new(alloc);
+    let mut recipients = Recipients::with_capacity(alloc, storages.len())?;
     for k in 0..storages.len() {
         let storage = storages[k].storage;
         let list = read_props(alloc, files, storage, Part::Recipient, names, passed)?;
@@ -110,7 +110,7 @@ fn read_attachments<'a>(
     ensures { GivesBeside pieces_beside passed.old passed.new result (attachments_in names.now (inner_at levels names.now) (storage_seen files.now at)) }
 {
     let storages = storages_in(alloc, files, at, ATTACHMENT)?;
-    let mut attachments = Attachments::new(alloc);
+    let mut attachments = Attachments::with_capacity(alloc, storages.len())?;
     for k in 0..storages.len() {
         let storage = storages[k].storage;
         let attachment = read_attachment(alloc, files, storage, names, levels, passed)?;

@@ -6,17 +6,18 @@ ghost use Rattle.prop_names.specs.Meaning.{name_of};
 use carrier_io::{NoMemory, Units};
 use std::alloc::Global;
 use std::cmp::Ordering;
+use std::rc::Rc;
 
 /// A GUID's 16 bytes as a file has them.
 #[derive(Clone, Copy, Debug, PartialEq, Eq)]
 pub struct Guid(pub [u8; 16]);
 
-/// A name in a property set: a number or a text. Most are numbers, so a text stands in a box, and a name takes no more
-/// room than a number.
+/// A name in a property set: a number or a text. Most are numbers, so a text stands by itself, and a name takes no more
+/// room than a number. Copies of a name share its text, so many properties may have one long name.
 #[derive(Debug, Drop)]
 pub enum Name {
     Number { set: Guid, number: u32 },
-    Text(Box<TextName>),
+    Text(Rc<TextName>),
 }
 
 /// A text in a property set.
@@ -48,7 +49,7 @@ impl Name {
     pub fn of_text(alloc: Global, set: Guid, units: Units) -> Result<Name, NoMemory>
         ensures { IfOk result (λ r. name_of r ≡ texted set.0 units) }
     {
-        Ok(Name::Text(Box::new(alloc, TextName { set, units })?))
+        Ok(Name::Text(Rc::new(alloc, TextName { set, units })?))
     }
 
     /// The property set.
@@ -96,7 +97,7 @@ impl Name {
                 set: *set,
                 number: *number,
             }),
-            Name::Text(text) => Name::of_text(alloc, text.set, text.units.copy(alloc)?),
+            Name::Text(text) => Ok(Name::Text(text.clone()?)),
         }
     }
 }

@@ -36,7 +36,9 @@ fn recipients_in<'a>(
         }));
     }
     let count = u32_at(bytes, 0);
-    let mut recipients = Recipients::new(alloc);
+    // Each list has a count of four bytes.
+    let room = (count as usize).min(bytes.len() / 4);
+    let mut recipients = Recipients::with_capacity(alloc, room)?;
     let mut from = 4;
     for _k in 0..count {
         let list = read_list(alloc, bytes, from, at, Part::Recipient, passed)?;

@@ -60,7 +60,7 @@ pub fn units_from(alloc: Global, bytes: &[u8]) -> Result<Units, NoMemory>
     requires { length bytes.now ≤ 512 }
     ensures { IfOk result (λ r. r ≡ octets.units_of bytes.now) }
 {
-    let mut units = Units::new(alloc);
+    let mut units = Units::with_capacity(alloc, bytes.len() / 2)?;
     for k in 0..bytes.len() / 2 {
         units.push(u16_at(bytes, 2 * k))?;
     }

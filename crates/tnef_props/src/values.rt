@@ -78,7 +78,7 @@ fn guids_from<'a>(alloc: Global, from: Rest<'a>) -> Result<(Guids, Rest<'a>), St
     ensures fault { IfErr result (Refuses (lists.many (lists.padded 16)) from.entry) }
 {
     let (count, mut rest) = word(from)?;
-    let mut list = Guids::new(alloc);
+    let mut list = Guids::with_capacity(alloc, rest.room_for(count))?;
     for _k in 0..count {
         let (set, after) = guid_value(rest)?;
         list.push(set)?;
@@ -112,7 +112,7 @@ fn parts_from<'a>(
     ensures fault { IfErr result (Refuses (lists.many (lists.text (kind_number kind))) from.entry) }
 {
     let (count, mut rest) = word(from)?;
-    let mut list = Parts::new(alloc);
+    let mut list = Parts::with_capacity(alloc, rest.room_for(count))?;
     for _k in 0..count {
         let (bytes, after) = text(rest, kind)?;
         list.push(bytes)?;

@@ -61,8 +61,9 @@ pub(crate) fn read_bytes(alloc: Global, kind: Kind, value: &Value) -> Result<Vec
 pub(crate) fn read_numbers(alloc: Global, value: &Value, most: u64) -> Result<Numbers, ReadEnd>
     ensures { Reads (λ list. list) (read_list (number_below (most + 1)) (view value.now)) result }
 {
-    let mut list = Numbers::new(alloc);
-    for item in items(alloc, value)?.as_slice() {
+    let values = items(alloc, value)?.as_slice();
+    let mut list = Numbers::with_capacity(alloc, values.len())?;
+    for item in values {
         let step = list.len() as u64;
         list.push(under(number_up_to(alloc, item, most), step)?)?;
     }
@@ -76,8 +77,9 @@ pub(crate) fn read_numbers(alloc: Global, value: &Value, most: u64) -> Result<Nu
 pub(crate) fn read_guids(alloc: Global, value: &Value) -> Result<Guids, ReadEnd>
     ensures { Reads (λ list. list) (read_list plain_guid (view value.now)) result }
 {
-    let mut list = Guids::new(alloc);
-    for item in items(alloc, value)?.as_slice() {
+    let values = items(alloc, value)?.as_slice();
+    let mut list = Guids::with_capacity(alloc, values.len())?;
+    for item in values {
         let step = list.len() as u64;
         list.push(under(read_guid(alloc, item), step)?)?;
     }
@@ -95,8 +97,9 @@ pub(crate) fn read_parts(
 ) -> Result<Parts<Vec<u8>>, ReadEnd>
     ensures { Reads (λ list. list) (read_list (plain_bytes (kind_number kind)) (view value.now)) result }
 {
-    let mut list = Parts::new(alloc);
-    for item in items(alloc, value)?.as_slice() {
+    let values = items(alloc, value)?.as_slice();
+    let mut list = Parts::with_capacity(alloc, values.len())?;
+    for item in values {
         let step = list.len() as u64;
         list.push(under(read_bytes(alloc, kind, item), step)?)?;
     }

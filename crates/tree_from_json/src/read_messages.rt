@@ -18,7 +18,7 @@ fn read_recipients(alloc: Global, value: &Value) -> Result<Recipients<Vec<u8>>, 
     ensures { Reads (λ r. r) (read_each props_meant (view value.now)) result }
 {
     let values = items(alloc, value)?.as_slice();
-    let mut all = Recipients::new(alloc);
+    let mut all = Recipients::with_capacity(alloc, values.len())?;
     for k in 0..values.len() {
         let props = under(read_props(alloc, &values[k]), k as u64)?;
         all.push(props)?;
@@ -90,7 +90,7 @@ fn read_attachments(
     ensures { Reads (list_of (λ b. b.items)) (read_each (plain.read_attachment (plain.read_within levels)) (view value.now)) result }
 {
     let values = items(alloc, value)?.as_slice();
-    let mut all = Attachments::new(alloc);
+    let mut all = Attachments::with_capacity(alloc, values.len())?;
     for k in 0..values.len() {
         let attachment = under(read_attachment(alloc, &values[k], levels), k as u64)?;
         all.push(attachment)?;

@@ -73,8 +73,9 @@ fn push_prop(props: &mut Props<Vec<u8>>, prop: Prop<Vec<u8>>) -> Result<(), NoMe
 pub(crate) fn read_props(alloc: Global, value: &Value) -> Result<Props<Vec<u8>>, ReadEnd>
     ensures { Reads (λ props. props) (plain_props (view value.now)) result }
 {
-    let mut props = Props::new(alloc);
-    for item in items(alloc, value)?.as_slice() {
+    let values = items(alloc, value)?.as_slice();
+    let mut props = Props::with_capacity(alloc, values.len())?;
+    for item in values {
         let step = props.len() as u64;
         let prop = under(read_next_prop(alloc, &props, item), step)?;
         push_prop(&mut props, prop)?;

@@ -39,7 +39,7 @@ pub(crate) fn read_text(alloc: Global, value: &Value) -> Result<Vec<u8>, ReadEnd
 fn units_in(alloc: Global, bytes: &[u8]) -> Result<Units, NoMemory>
     ensures { IfOk result (λ units. units ≡ units_of bytes.now) }
 {
-    let mut units = Units::new(alloc);
+    let mut units = Units::with_capacity(alloc, bytes.len() / 2)?;
     for k in 0..bytes.len() / 2 {
         units.push(u16::from_le_bytes([bytes[2 * k], bytes[2 * k + 1]]))?;
     }

@@ -117,7 +117,7 @@ fn convert_each<B: Blob>(
     ensures ok { IfOk result (λ r. r ≡ plain.converted_props code props.now) }
     ensures end { IfErr result (IsEndOf (plain.bad_props code first props.now)) }
 {
-    let mut all = Props::new(alloc);
+    let mut all = Props::with_capacity(alloc, props.len())?;
     for k in 0..props.len() {
         let number = first.saturating_add(k as u64);
         let prop = convert_prop(alloc, code, props, props.get(k), number)?;

@@ -56,7 +56,7 @@ fn convert_recipients<B: Blob>(
     ensures next { OnOk result (AreOne next.new (next.old + sum_by length recipients.now)) }
     ensures end { IfErr result (IsEndOf (plain.bad_recipients code next.old recipients.now)) }
 {
-    let mut all = Recipients::new(alloc);
+    let mut all = Recipients::with_capacity(alloc, recipients.len())?;
     for k in 0..recipients.len() {
         all.push(convert_props(alloc, code, recipients.get(k), next)?)?;
     }
@@ -99,7 +99,7 @@ fn convert_attachments<B: Blob>(
     ensures next { OnOk result (AreOne next.new (next.old + sum_by props_at (list_of B.bytes list.now))) }
     ensures end { IfErr result (IsEndOf (plain.bad_below code next.old (attachments_from (list_of B.bytes list.now)))) }
 {
-    let mut all = Attachments::new(alloc);
+    let mut all = Attachments::with_capacity(alloc, list.len())?;
     for k in 0..list.len() {
         all.push(convert_attachment(alloc, code, list.get(k), next)?)?;
     }

@@ -23,7 +23,7 @@ fn wide_parts<B: Blob>(
     ensures ok { IfOk result (λ r. r ≡ map (plain.wide_bytes (plain_page page)) list.now) }
     ensures bad { IfErr result (IsBadIn (λ code n. plain.bad_elements code n (plain_page page) 0 list.now)) }
 {
-    let mut all = Parts::new(alloc);
+    let mut all = Parts::with_capacity(alloc, list.len())?;
     for k in 0..list.len() {
         match wide_blob(alloc, page, list.get(k)) {
             Ok(wide) => all.push(wide)?,
