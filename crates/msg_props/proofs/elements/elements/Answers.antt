@@ -21,7 +21,7 @@ overflow_cast-k c =
 
 pub returns-in_err-part-clause-list : goal.returns-in_err-part-clause-list
 returns-in_err-part-clause-list c =
-    let p = err_from_is_err_and c.from_residual.result c.from_residual.ensures.1 in
+    let p = err_from_is_err_and c.from_residual-in_err-part.result c.from_residual-in_err-part.ensures.1 in
     let x = bytes_of c.args.sizes.now in
     let tag = c.args.entry.now.tag in
     let step : c.length_width-step.result ≡ step_of (tag % 0x10000) = c.length_width-step.ensures.step c.args.single c.requires.shape ∙ ap step_of c.requires.kind in
@@ -35,7 +35,7 @@ loop-k-preserved c =
     let tag = c.args.entry.now.tag in
     let step : c.length_width-step.result ≡ step_of (tag % 0x10000) = c.length_width-step.ensures.step c.args.single c.requires.shape ∙ ap step_of c.requires.kind in
     let size : c.u32_at-size.result ≡ u32_of x (step_of (tag % 0x10000) * c.loop-k.k) = size_read c.u32_at-size.result c.length_width-step.result (step_of (tag % 0x10000)) c.loop-k.k x step c.u32_at-size.ensures in
-    elim c.match-branch-2.branch [
+    elim c.match-branch-3.branch [
       | in-Some+in_ok-push-in-Some w ↦
           rw (w.list-is, w.missing-is) (gone_found (kind_number c.args.single) c.args.entry.now.place (streams_in c.args.files.now c.args.at) tag x c.loop-k.k c.loop-k.list c.loop-k.missing c.loop-k.invariant c.u32_at-size.result w.in-Some.part w.push.new.self size (subst (IsElement (kind_number c.args.single) (record { stream = streams_in c.args.files.now c.args.at (element_name tag c.loop-k.k); size = c.u32_at-size.result })) w.in-Some.is c.in_ok-part.ensures.found) w.in_ok-push-in-Some.ensures.ok)
       | in-None w ↦

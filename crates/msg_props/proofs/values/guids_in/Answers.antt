@@ -7,7 +7,7 @@ use Rattle.msg_props.proofs.values.guids_in.Goals as goal
 pub loop-k-preserved : goal.loop-k-preserved
 loop-k-preserved c =
     let x = bytes_of c.args.view.now in
-    let inside : 16 * c.loop-k.k + 16 ≤ length x = omega (arith, c.loop-k-test.true, c.loop-k.auto.k-end, c.len-k-end.ensures) in
+    let inside : 16 * c.loop-k.k + 16 ≤ length x = omega (arith, c.loop-k-test.true, c.loop-k.auto.k-end, c.len-count.ensures) in
     record {
       list = c.in_ok-push.ensures.ok ∙ (ap (λ (z : List (List ℕ)). z ++ c.copy_range.new.into ∷ []) c.loop-k.invariant.list ∙ ap (λ (z : List ℕ). map (piece 16 x) (range_with_len 0 c.loop-k.k) ++ z ∷ []) c.copy_range.ensures ∙ sym (upto_more (piece 16 x) c.loop-k.k));
       fit = pushed (λ (g : List ℕ). length g ≡ 16) c.loop-k.list c.push.new.self c.copy_range.new.into c.loop-k.invariant.fit (ap length c.copy_range.ensures ∙ piece_length 16 c.loop-k.k x inside) c.in_ok-push.ensures.ok;

@@ -78,7 +78,7 @@ read_attachment-returns-in-None t c =
 -- ---- attachments
 
 pub read_attachments-loop-k-init : goal.read_attachments-loop-k-init
-read_attachments-loop-k-init t c = progress_none (attachment_in c.args.names.now (inner_at c.args.levels c.args.names.now)) (λ (a : Carried). a.attached) (λ (a : Carried). a.passed) (seen_storages c.args.files.now c.in_ok-storages.storages.items) c.args.passed.now (list_of bytes_of c.new-attachments.result) c.new-attachments.ensures
+read_attachments-loop-k-init t c = progress_none (attachment_in c.args.names.now (inner_at c.args.levels c.args.names.now)) (λ (a : Carried). a.attached) (λ (a : Carried). a.passed) (seen_storages c.args.files.now c.in_ok-storages.storages.items) c.args.passed.now (list_of bytes_of c.in_ok-attachments.attachments) c.in_ok-attachments.ensures
 
 pub read_attachments-returns-in_err-attachment : goal.read_attachments-returns-in_err-attachment
 read_attachments-returns-in_err-attachment t c =

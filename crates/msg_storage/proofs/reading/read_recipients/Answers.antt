@@ -15,7 +15,7 @@ use Rattle.msg_storage.proofs.Turned.{fails_with, list_read, progress_all, progr
 use Rattle.msg_storage.proofs.reading.read_recipients.Goals as goal
 
 pub loop-k-init : goal.loop-k-init
-loop-k-init c = progress_none (list_in recipient c.args.names.now) (λ (s : Section). s.props) (λ (s : Section). s.passed) (seen_storages c.args.files.now c.in_ok-storages.storages.items) c.args.passed.now c.new-recipients.result c.new-recipients.ensures
+loop-k-init c = progress_none (list_in recipient c.args.names.now) (λ (s : Section). s.props) (λ (s : Section). s.passed) (seen_storages c.args.files.now c.in_ok-storages.storages.items) c.args.passed.now c.in_ok-recipients.recipients c.in_ok-recipients.ensures
 
 pub returns-in_err-list : goal.returns-in_err-list
 returns-in_err-list c =

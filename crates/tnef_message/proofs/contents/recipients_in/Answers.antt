@@ -8,11 +8,11 @@ pub returns-then-bytes-lt4-clause-fault : goal.returns-then-bytes-lt4-clause-fau
 returns-then-bytes-lt4-clause-fault c = no_count c.args.at c.args.bytes.now c.if-bytes-lt4.true
 
 pub loop-k-init : goal.loop-k-init
-loop-k-init c = rw c.new-recipients.ensures (rows_none c.args.at c.u32_at-count.result c.args.bytes.now c.args.passed.now (omega arith) c.u32_at-count.ensures)
+loop-k-init c = rw c.in_ok-recipients.ensures (rows_none c.args.at c.u32_at-count.result c.args.bytes.now c.args.passed.now (omega arith) c.u32_at-count.ensures)
 
 pub returns-in_err-list-clause-fault : goal.returns-in_err-list-clause-fault
 returns-in_err-list-clause-fault c =
-    let p = err_from_is_err_and c.from_residual.result c.from_residual.ensures.1 in
+    let p = err_from_is_err_and c.from_residual-in_err-list.result c.from_residual-in_err-list.ensures.1 in
     let l = c.loop-k in
     rw (p.1, p.2) (rows_stop c.args.at c.args.bytes.now c.u32_at-count.result l._k l.recipients c.args.passed.now l.passed l.from l.invariant c.loop-k-test.true c.in_err-list.field-0.0 c.in_err-list.ensures.fault)
 

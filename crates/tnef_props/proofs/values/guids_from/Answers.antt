@@ -5,7 +5,7 @@ use Rattle.tnef_props.proofs.ValueForms.{padded_len, turns_begin, turns_more, tu
 use Rattle.tnef_props.proofs.values.guids_from.Goals as goal
 
 pub loop-k-init : goal.loop-k-init
-loop-k-init c = rw c.new-list.ensures (record {
+loop-k-init c = rw c.in_ok-list.ensures (record {
   turns = turns_begin (padded 16) (λ (x : List ℕ). x) c.args.from c.in_ok-count.rest c.in_ok-count.count c.in_ok-count.ensures.found;
   fit = λ k d lt. absurd (omega arith);
 })

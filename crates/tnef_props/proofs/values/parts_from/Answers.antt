@@ -7,7 +7,7 @@ use Rattle.tnef_props.proofs.ValueForms.{text_valid, turns_begin, turns_more, tu
 use Rattle.tnef_props.proofs.values.parts_from.Goals as goal
 
 pub loop-k-init : goal.loop-k-init
-loop-k-init c = rw c.new-list.ensures (record {
+loop-k-init c = rw c.in_ok-list.ensures (record {
   turns = turns_begin (text (kind_number c.args.kind)) (λ (x : List ℕ). x) c.args.from c.in_ok-count.rest c.in_ok-count.count c.in_ok-count.ensures.found;
   fit = λ k d lt. absurd (omega arith);
 })

@@ -4,4 +4,4 @@ use Rattle.tree_from_json.proofs.Turns.{InTurn}
 use Rattle.tree_from_json.proofs.read_lists.read_parts.Given as goal
 
 abbrev pub invariant-loop-item : goal.invariant-loop-item
-invariant-loop-item l = InTurn (λ before. read_bytes (kind_number l.kind)) l.list l.item-index l.item-items
+invariant-loop-item l = InTurn (λ before. read_bytes (kind_number l.kind)) l.list l.item-index l.values

@@ -6,6 +6,6 @@ use Rattle.tree_from_json.proofs.read_props.read_props.Given as goal
 
 abbrev pub invariant-loop-item : goal.invariant-loop-item
 invariant-loop-item l = record {
-  turn : InTurn read_next_prop l.props l.item-index l.item-items;
+  turn : InTurn read_next_prop l.props l.item-index l.values;
   sorted : IsStrictlySorted prop_cmp l.props;
 }

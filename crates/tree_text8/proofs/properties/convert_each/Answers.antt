@@ -12,7 +12,7 @@ append-requires g c = next_above c.args.code c.args.props.now c.loop-k.all c.loo
 
 pub returns-in_err-prop-clause-end : goal.returns-in_err-prop-clause-end
 returns-in_err-prop-clause-end g c =
-    let p = err_from_is_err_and c.from_residual.result c.from_residual.ensures.1 in
+    let p = err_from_is_err_and c.from_residual-in_err-prop.result c.from_residual-in_err-prop.ensures.1 in
     rw (p.1, p.2) (list_end c.args.code c.args.props.now c.args.first c.loop-k.k c.saturating_add-number.result c.get.result.now c.get.ensures (told_at c.args.first c.loop-k.k c.saturating_add-number.result c.saturating_add-number.ensures) c.in_err-prop.field-0.0 c.in_err-prop.ensures.end c.loop-k.invariant.bad)
 
 pub loop-k-preserved : goal.loop-k-preserved

@@ -27,7 +27,7 @@ convert_attachments-convert_attachment-requires g t c κs within =
 
 pub convert_attachments-returns-in_err-convert_attachment-clause-end : goal.convert_attachments-returns-in_err-convert_attachment-clause-end
 convert_attachments-returns-in_err-convert_attachment-clause-end g t c =
-    let p = err_from_is_err_and c.from_residual.result c.from_residual.ensures.1 in
+    let p = err_from_is_err_and c.from_residual-in_err-convert_attachment.result c.from_residual-in_err-convert_attachment.ensures.1 in
     let code = c.args.code in
     rw (p.1, p.2) (walk_end (bad_attached code) props_at (λ n xs. bad_below code n (plain.attachments_from xs)) (attached_cons code) (attached_same code) (list_of g.B.Blob.bytes c.args.list.now) c.args.next.now c.loop-k.k c.loop-k.next _ c.get.ensures c.loop-k.invariant.next c.in_err-convert_attachment.field-0.0 c.in_err-convert_attachment.ensures.end c.loop-k.invariant.bad)
 

@@ -7,7 +7,7 @@ use Rattle.tree_text8.proofs.trees.convert_recipients.Goals as goal
 
 pub returns-in_err-convert_props-clause-end : goal.returns-in_err-convert_props-clause-end
 returns-in_err-convert_props-clause-end g c =
-    let p = err_from_is_err_and c.from_residual.result c.from_residual.ensures.1 in
+    let p = err_from_is_err_and c.from_residual-in_err-convert_props.result c.from_residual-in_err-convert_props.ensures.1 in
     let code = c.args.code in
     rw (p.1, p.2) (walk_end (bad_props code) length (bad_recipients code) (recipients_cons code) (props_same code) c.args.recipients.now c.args.next.now c.loop-k.k c.loop-k.next c.get.result.now c.get.ensures c.loop-k.invariant.next c.in_err-convert_props.field-0.0 c.in_err-convert_props.ensures.end c.loop-k.invariant.bad)
 
