@@ -1,5 +1,5 @@
 -- Units of 16 bits, written and read again.
-use Rattle.std.proofs.Common.{◌≡◌, ℕ, suc, ◌+◌, ◌*◌, ◌/◌, ◌<◌, ◌^◌, ◌%◌, List, [], ◌∷◌, refl, arith, length}
+use Rattle.std.proofs.Common.{◌≡◌, ℕ, zero, suc, ◌+◌, ◌*◌, ◌/◌, ◌<◌, ◌≤◌, ◌^◌, ◌%◌, List, [], ◌∷◌, ◌++◌, refl, ap, arith, length, take, take_all, get_or}
 use Rattle.std.specs.Prelude.{All}
 use Rattle.carrier_model.specs.Bytes.{units_of, unit_bytes, AllBytes}
 use Rattle.std.specs.List.{AllByRecursion}
@@ -22,3 +22,29 @@ units_below (low ∷ high ∷ x) h =
     let a : low < 256 = h 0 in
     let b : high < 256 = h 1 in
     (omega arith, units_below x (λ i. h (suc (suc i))))
+
+-- ---- units that are read one after another
+
+pub units_front : (x : List ℕ) (k : ℕ) → 2 * k + 1 < length x → units_of (take (2 * (k + 1)) x) ≡ units_of (take (2 * k) x) ++ (get_or x (2 * k) 0 + 256 * get_or x (2 * k + 1) 0) ∷ []
+units_front [] k h = absurd (omega arith)
+units_front (a ∷ []) k h = absurd (omega arith)
+units_front (a ∷ b ∷ x) zero h = refl
+units_front (a ∷ b ∷ x) (suc k) h =
+    let e : 2 * (suc k + 1) ≡ suc (suc (2 * (k + 1))) = omega arith in
+    let f : 2 * suc k ≡ suc (suc (2 * k)) = omega arith in
+    let g : 2 * suc k + 1 ≡ suc (suc (2 * k + 1)) = omega arith in
+    rw (e, g, f) (ap (λ l. (a + 256 * b) ∷ l) (units_front x k (omega arith)))
+
+pub units_whole : (x : List ℕ) (k : ℕ) → length x / 2 ≤ k → units_of (take (2 * k) x) ≡ units_of x
+units_whole [] k h = ap units_of (take_all (2 * k) [] (omega arith))
+units_whole (a ∷ []) zero h = refl
+units_whole (a ∷ []) (suc k) h = ap units_of (take_all (2 * suc k) (a ∷ []) (omega arith))
+units_whole (a ∷ b ∷ x) zero h = absurd (omega arith)
+units_whole (a ∷ b ∷ x) (suc k) h =
+    let f : 2 * suc k ≡ suc (suc (2 * k)) = omega arith in
+    rw f (ap (λ l. (a + 256 * b) ∷ l) (units_whole x k (omega arith)))
+
+pub units_halve : (x : List ℕ) → length (units_of x) ≡ length x / 2
+units_halve [] = refl
+units_halve (low ∷ []) = omega arith
+units_halve (low ∷ high ∷ x) = omega (arith, units_halve x)

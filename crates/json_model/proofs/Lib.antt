@@ -1,6 +1,5 @@
 pub mod NoFloats
 pub mod Nesting
-pub mod UnitRuns
 pub mod WellFormed
 pub mod Meant
 pub mod HexLaws

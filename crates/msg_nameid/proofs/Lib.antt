@@ -8,5 +8,4 @@ pub mod OrderLaws
 pub mod SetLists
 pub mod StreamLaws
 pub mod TableLaws
-pub mod TextLaws
 pub mod TextSteps

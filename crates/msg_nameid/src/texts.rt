@@ -8,6 +8,7 @@ ghost use Rattle.msg_model.specs.NameMap as model;
 
 use carrier_io::{Blob, Fault, NoMemory, Reason, Stop, Units};
 use cfb_sectors::{StreamView, file_offset};
+use prop_names::units_of_bytes;
 use std::alloc::Global;
 
 /// The most bytes of a text.
@@ -37,17 +38,15 @@ fn units_at(
     size: usize,
 ) -> Result<Units, NoMemory>
     requires low { at ≤ 0x100000003 }
-    requires even { size % 2 ≡ 0 }
     requires few { size ≤ 510 }
     requires inside { at + size ≤ length (bytes_of texts.now) }
     ensures units { IfOk result (λ units. units ≡ units_of (take size (drop at (bytes_of texts.now)))) }
     ensures few { IfOk result (λ units. length units ≤ 255) }
 {
-    let mut units = Units::with_capacity(alloc, size / 2)?;
-    for k in 0..size / 2 {
-        units.push(texts.u16_at(at + 2 * k))?;
-    }
-    Ok(units)
+    let mut buffer = [0; MOST_BYTES];
+    let bytes = &mut buffer[..size];
+    texts.copy_range(at, bytes);
+    units_of_bytes(alloc, bytes)
 }
 
 /// The units of the text at a place: its size, and so many bytes. BadNameOffset at the entry, whose offset in the file is

@@ -1,5 +1,5 @@
 pub mod Forms
-pub mod UnitLists
+pub mod NumberBytes
 pub mod NameForms
 pub mod ValueForms
 pub mod KindNumbers

@@ -8,9 +8,9 @@ ghost use Rattle.tnef_props.specs.Steps.{Takes, Refuses};
 
 use crate::fields::{raw, skip_padding, word};
 use crate::rest::Rest;
-use crate::texts::{units_from, without_null};
+use crate::texts::without_null;
 use carrier_io::{Fault, Reason, Stop, Units};
-use prop_names::{Guid, Key, Name};
+use prop_names::{Guid, Key, Name, units_of_bytes};
 use std::alloc::Global;
 
 /// The size of a name's text.
@@ -38,7 +38,7 @@ fn name_units<'a>(alloc: Global, from: Rest<'a>) -> Result<(Units, u32, Rest<'a>
 {
     let (n, rest) = name_size(from)?;
     let (bytes, rest) = raw(rest, n as usize)?;
-    let units = units_from(alloc, without_null(bytes, 2))?;
+    let units = units_of_bytes(alloc, without_null(bytes, 2))?;
     Ok((units, n, rest))
 }
 

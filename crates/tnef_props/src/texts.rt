@@ -8,9 +8,8 @@ ghost use Rattle.tnef_props.specs.Steps.{Takes, Refuses};
 
 use crate::fields::sized;
 use crate::rest::Rest;
-use carrier_io::{NoMemory, Stop, Units, u16_at};
+use carrier_io::Stop;
 use prop_values::Kind;
-use std::alloc::Global;
 
 /// Whether the size of a text of the kind is even.
 fn is_even(kind: Kind) -> bool
@@ -53,16 +52,4 @@ pub fn text<'a>(from: Rest<'a>, kind: Kind) -> Result<(&'a [u8], Rest<'a>), Stop
 {
     let (object, rest) = sized(from, is_even(kind), 0)?;
     Ok((without_null(object.bytes, kind.null_size()), rest))
-}
-
-/// The units that bytes are.
-pub fn units_from(alloc: Global, bytes: &[u8]) -> Result<Units, NoMemory>
-    requires { length bytes.now ≤ 512 }
-    ensures { IfOk result (λ r. r ≡ octets.units_of bytes.now) }
-{
-    let mut units = Units::with_capacity(alloc, bytes.len() / 2)?;
-    for k in 0..bytes.len() / 2 {
-        units.push(u16_at(bytes, 2 * k))?;
-    }
-    Ok(units)
 }

@@ -1,6 +1,4 @@
 //! Texts of 16-bit units from strings, or from the digits of their bytes. [RFC 8259, section 8]
-ghost use Rattle.std.specs.Prelude.{◌≡◌, IfOk};
-ghost use Rattle.carrier_model.specs.Bytes.{units_of};
 ghost use Rattle.json_model.specs.Texts.{read_units as plain_units, read_text as plain_text, read_name as plain_name};
 ghost use Rattle.json_values.specs.View.{view};
 ghost use Rattle.tree_from_json.specs.Ends.{Reads};
@@ -8,9 +6,10 @@ ghost use Rattle.tree_from_json.specs.Ends.{Reads};
 use crate::read_digits::read_groups;
 use crate::read_ends::{JsonWhy, ReadEnd, fault_here, under};
 use crate::read_parts::{has_members, member};
-use carrier_io::{NoMemory, Units};
+use carrier_io::Units;
 use json::Value;
 use json_values::as_str;
+use prop_names::units_of_bytes;
 use prop_values::utf16_bytes;
 use std::alloc::Global;
 
@@ -35,17 +34,6 @@ pub(crate) fn read_text(alloc: Global, value: &Value) -> Result<Vec<u8>, ReadEnd
     }
 }
 
-/// The units of bytes, the low byte first.
-fn units_in(alloc: Global, bytes: &[u8]) -> Result<Units, NoMemory>
-    ensures { IfOk result (λ units. units ≡ units_of bytes.now) }
-{
-    let mut units = Units::with_capacity(alloc, bytes.len() / 2)?;
-    for k in 0..bytes.len() / 2 {
-        units.push(u16::from_le_bytes([bytes[2 * k], bytes[2 * k + 1]]))?;
-    }
-    Ok(units)
-}
-
 /// The units of a text of at most so many.
 pub(crate) fn read_name(alloc: Global, value: &Value, most: usize) -> Result<Units, ReadEnd>
     ensures { Reads (λ units. units) (plain_name most (view value.now)) result }
@@ -54,5 +42,5 @@ pub(crate) fn read_name(alloc: Global, value: &Value, most: usize) -> Result<Uni
     if bytes.len() > most.saturating_mul(2) {
         return Err(fault_here(alloc, JsonWhy::Range));
     }
-    Ok(units_in(alloc, &bytes)?)
+    Ok(units_of_bytes(alloc, &bytes)?)
 }

@@ -1,5 +1,5 @@
 use Rattle.std.proofs.Common.{◌≡◌, length, ◌∙◌, arith}
-use Rattle.tnef_props.proofs.UnitLists.{number64-le}
+use Rattle.tnef_props.proofs.NumberBytes.{number64-le}
 use Rattle.tnef_props.proofs.values.number_in.Goals as goal
 
 pub returns-in_default-clause-number : goal.returns-in_default-clause-number

@@ -1,6 +1,6 @@
 use Rattle.std.proofs.Common.{◌≡◌, ◌∙◌, ◌+◌, ◌*◌, [], ◌∷◌, ◌++◌, get_or, sym, arith}
-use Rattle.json_model.proofs.UnitRuns.{units_front, units_whole}
-use Rattle.tree_from_json.proofs.read_texts.units_in.Goals as goal
+use Rattle.carrier_model.proofs.Units.{units_front, units_whole}
+use Rattle.prop_names.proofs.units.units_of_bytes.Goals as goal
 
 pub loop-k-preserved : goal.loop-k-preserved
 loop-k-preserved c =

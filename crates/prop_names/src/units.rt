@@ -1,0 +1,18 @@
+//! The units of bytes.
+ghost use Rattle.std.specs.Prelude.{◌≡◌, IfOk};
+ghost use Rattle.carrier_model.specs.Bytes.{units_of};
+
+use carrier_io::{NoMemory, Units};
+use std::alloc::Global;
+
+/// The units that bytes are, the low byte of each first; a last byte by itself is none. NoMemory says that memory ran
+/// out.
+pub fn units_of_bytes(alloc: Global, bytes: &[u8]) -> Result<Units, NoMemory>
+    ensures { IfOk result (λ units. units ≡ units_of bytes.now) }
+{
+    let mut units = Units::with_capacity(alloc, bytes.len() / 2)?;
+    for k in 0..bytes.len() / 2 {
+        units.push(u16::from_le_bytes([bytes[2 * k], bytes[2 * k + 1]]))?;
+    }
+    Ok(units)
+}
