@@ -61,19 +61,17 @@ fits_next now then low byte unit more is u high fit none =
 pub record Taken (a b : Option (List ℕ)) (n m s t : ℕ) (from now : Utf16) (xs : List ℕ) : Type 0 where
   pub so_far : SoFar a b n m s t (text_left from xs)
   pub next : (more : List ℕ) → text_left from (xs ++ more) ≡ text_left from xs ++ text_left now more
-  pub fits : (more : List ℕ) → fits_with from (xs ++ more) ≡ fits_with now more
 
 pub taken_nothing : (a : Option (List ℕ)) (n s : ℕ) (u : Utf16) → Taken a a n n s s u u []
 taken_nothing a n s u = record {
   so_far = so_far_as _ (sym (nothing_left u)) (at_first a n s);
   next = λ more. ap (λ (z : List ℕ). z ++ text_left u more) (sym (nothing_left u));
-  fits = λ more. refl;
 }
 
 -- one run more
 pub taken_more : {E : Type 0} {a b c : Option (List ℕ)} {n m k s t u : ℕ} {from now then : Utf16} {xs : List ℕ} (ys all : List ℕ) → all ≡ xs ++ ys → Taken a b n m s t from now xs → Counts {E = E} b c m k t u (Ok tt) (text_left now ys)
-    → ((more : List ℕ) → text_left now (ys ++ more) ≡ text_left now ys ++ text_left then more) → ((more : List ℕ) → fits_with now (ys ++ more) ≡ fits_with then more) → Taken a c n k s u from then all
-taken_more {from = from} {now = now} {then = then} {xs = xs} ys all is p w next fits =
+    → ((more : List ℕ) → text_left now (ys ++ more) ≡ text_left now ys ++ text_left then more) → Taken a c n k s u from then all
+taken_more {from = from} {now = now} {then = then} {xs = xs} ys all is p w next =
     let both : text_left from all ≡ text_left from xs ++ text_left now ys = ap (text_left from) is ∙ p.next ys in
     record {
       so_far = so_far_as _ (sym both) (one_more p.so_far w);
@@ -81,7 +79,6 @@ taken_more {from = from} {now = now} {then = then} {xs = xs} ys all is p w next 
           ap (λ (z : List ℕ). text_left from (z ++ more)) is ∙ ap (text_left from) (append_assoc xs ys more) ∙ p.next (ys ++ more)
           ∙ ap (λ (z : List ℕ). text_left from xs ++ z) (next more) ∙ sym (append_assoc (text_left from xs) (text_left now ys) (text_left then more))
           ∙ ap (λ (z : List ℕ). z ++ text_left then more) (sym both);
-      fits = λ more. ap (λ (z : List ℕ). fits_with from (z ++ more)) is ∙ ap (fits_with from) (append_assoc xs ys more) ∙ p.fits (ys ++ more) ∙ fits more;
     }
 
 -- the run that is being taken, and what is behind it
@@ -91,7 +88,7 @@ taken_parts {from = from} {now = now} {xs = xs} ys zs all is p =
     let f = text_front now ys zs in
     (f.0, ap (text_left from) is ∙ p.next (ys ++ zs) ∙ ap (λ (z : List ℕ). text_left from xs ++ z) f.1)
 
--- ---- the bytes of a piece
+-- ---- runs inside a piece
 
 -- the same inside a run
 pub record Within (a b : Option (List ℕ)) (n m s t : ℕ) (from now : Utf16) (xs rest : List ℕ) : Type 0 where
@@ -99,33 +96,26 @@ pub record Within (a b : Option (List ℕ)) (n m s t : ℕ) (from now : Utf16) (
   pub parts : text_left from xs ≡ front ++ text_left now rest
   pub so_far : SoFar a b n m s t front
   pub next : (more : List ℕ) → text_left from (xs ++ more) ≡ front ++ text_left now (rest ++ more)
-  pub fits : (more : List ℕ) → fits_with from (xs ++ more) ≡ fits_with now (rest ++ more)
 
 pub within_start : (a : Option (List ℕ)) (n s : ℕ) (u : Utf16) (xs : List ℕ) → Within a a n n s s u u xs xs
-within_start a n s u xs = record { front = []; parts = refl; so_far = at_first a n s; next = λ more. refl; fits = λ more. refl }
+within_start a n s u xs = record { front = []; parts = refl; so_far = at_first a n s; next = λ more. refl }
 
--- what a decoder makes of a byte
-pub record Takes (now then : Utf16) (byte : ℕ) (one : Option ℕ) : Type 0 where
-  pub text : (more : List ℕ) → text_left now (byte ∷ more) ≡ character_text one ++ text_left then more
-  pub fits : (more : List ℕ) → fits_with now (byte ∷ more) ≡ fits_with then more
-
-pub within_more : {E : Type 0} {a b c : Option (List ℕ)} {n m k s t u : ℕ} {from now then : Utf16} {xs rest : List ℕ} (byte : ℕ) (behind : List ℕ) (one : Option ℕ) → rest ≡ byte ∷ behind → Within a b n m s t from now xs rest
-    → Takes now then byte one → Counts {E = E} b c m k t u (Ok tt) (character_text one) → Within a c n k s u from then xs behind
-within_more {from = from} {now = now} {then = then} {xs = xs} byte behind one is p taken w = record {
-  front = p.front ++ character_text one;
-  parts = p.parts ∙ ap (λ (z : List ℕ). p.front ++ z) (ap (text_left now) is ∙ taken.text behind) ∙ sym (append_assoc p.front (character_text one) (text_left then behind));
+pub within_more : {E : Type 0} {a b c : Option (List ℕ)} {n m k s t u : ℕ} {from now then : Utf16} {xs rest : List ℕ} (ys behind one : List ℕ) → rest ≡ ys ++ behind → Within a b n m s t from now xs rest
+    → ((more : List ℕ) → text_left now (ys ++ more) ≡ one ++ text_left then more) → Counts {E = E} b c m k t u (Ok tt) one → Within a c n k s u from then xs behind
+within_more {from = from} {now = now} {then = then} {xs = xs} ys behind one is p taken w = record {
+  front = p.front ++ one;
+  parts = p.parts ∙ ap (λ (z : List ℕ). p.front ++ z) (ap (text_left now) is ∙ taken behind) ∙ sym (append_assoc p.front one (text_left then behind));
   so_far = one_more p.so_far w;
   next = λ more.
       p.next more ∙ ap (λ (z : List ℕ). p.front ++ text_left now (z ++ more)) is
-      ∙ ap (λ (z : List ℕ). p.front ++ z) (taken.text (behind ++ more))
-      ∙ sym (append_assoc p.front (character_text one) (text_left then (behind ++ more)));
-  fits = λ more. p.fits more ∙ ap (λ (z : List ℕ). fits_with now (z ++ more)) is ∙ taken.fits (behind ++ more);
+      ∙ ap (λ (z : List ℕ). p.front ++ z) (ap (text_left now) (append_assoc ys behind more) ∙ taken (behind ++ more))
+      ∙ sym (append_assoc p.front one (text_left then (behind ++ more)));
 }
 
-pub within_stops : {E F : Type 0} {a b c : Option (List ℕ)} {n m k s t u v : ℕ} {from now then : Utf16} {xs rest : List ℕ} {r : Result (Unit {0}) F} {e : E} (byte : ℕ) (behind : List ℕ) (one : Option ℕ) → rest ≡ byte ∷ behind → IsErr r → Within a b n m s t from now xs rest
-    → Takes now then byte one → Counts {E = E} b c m k t u (Err e) (character_text one) → Counts {E = F} a c n k s v r (text_left from xs)
-within_stops {from = from} {now = now} {then = then} {xs = xs} byte behind one is err p taken w =
-    stops (text_left from xs) (text_left then behind) (p.parts ∙ ap (λ (z : List ℕ). p.front ++ z) (ap (text_left now) is ∙ taken.text behind)) err p.so_far w
+pub within_stops : {E F : Type 0} {a b c : Option (List ℕ)} {n m k s t u v : ℕ} {from now : Utf16} {xs rest : List ℕ} {r : Result (Unit {0}) F} {e : E} (then : Utf16) (ys behind one : List ℕ) → rest ≡ ys ++ behind → IsErr r → Within a b n m s t from now xs rest
+    → ((more : List ℕ) → text_left now (ys ++ more) ≡ one ++ text_left then more) → Counts {E = E} b c m k t u (Err e) one → Counts {E = F} a c n k s v r (text_left from xs)
+within_stops {from = from} {now = now} {xs = xs} then ys behind one is err p taken w =
+    stops (text_left from xs) (text_left then behind) (p.parts ∙ ap (λ (z : List ℕ). p.front ++ z) (ap (text_left now) is ∙ taken behind)) err p.so_far w
 
 -- all was taken
 pub within_text : {a b : Option (List ℕ)} {n m s t : ℕ} {from now : Utf16} {xs rest : List ℕ} → rest ≡ [] → (p : Within a b n m s t from now xs rest) → p.front ≡ text_left from xs
@@ -137,5 +127,49 @@ within_counts {from = from} {xs = xs} is p = all_done (text_left from xs) (withi
 pub within_next : {a b : Option (List ℕ)} {n m s t : ℕ} {from now : Utf16} {xs rest : List ℕ} → rest ≡ [] → (p : Within a b n m s t from now xs rest) → (more : List ℕ) → text_left from (xs ++ more) ≡ text_left from xs ++ text_left now more
 within_next {now = now} is p more = p.next more ∙ ap (λ (z : List ℕ). p.front ++ text_left now (z ++ more)) is ∙ ap (λ (z : List ℕ). z ++ text_left now more) (within_text is p)
 
-pub within_fits : {a b : Option (List ℕ)} {n m s t : ℕ} {from now : Utf16} {xs rest : List ℕ} → rest ≡ [] → (p : Within a b n m s t from now xs rest) → (more : List ℕ) → fits_with from (xs ++ more) ≡ fits_with now more
-within_fits {now = now} is p more = p.fits more ∙ ap (λ (z : List ℕ). fits_with now (z ++ more)) is
+-- ---- whether the bytes fit
+
+-- where a decoder has taken these bytes
+pub record Fits (from now : Utf16) (xs : List ℕ) : Type 0 where
+  pub fits : (more : List ℕ) → fits_with from (xs ++ more) ≡ fits_with now more
+
+pub fits_start : (u : Utf16) → Fits u u []
+fits_start u = record { fits = λ more. refl }
+
+-- one run more
+pub fits_more : {from now then : Utf16} {xs : List ℕ} (ys all : List ℕ) → all ≡ xs ++ ys → Fits from now xs → ((more : List ℕ) → fits_with now (ys ++ more) ≡ fits_with then more) → Fits from then all
+fits_more {from = from} {xs = xs} ys all is p taken = record {
+  fits = λ more. ap (λ (z : List ℕ). fits_with from (z ++ more)) is ∙ ap (fits_with from) (append_assoc xs ys more) ∙ p.fits (ys ++ more) ∙ taken more;
+}
+
+-- all was taken
+pub fits_then : {from now : Utf16} {xs all : List ℕ} → xs ≡ all → Fits from now xs → (more : List ℕ) → fits_with from (all ++ more) ≡ fits_with now more
+fits_then {from = from} is p more = ap (λ (z : List ℕ). fits_with from (z ++ more)) (sym is) ∙ p.fits more
+
+pub fits_all : {from now : Utf16} {xs all : List ℕ} → xs ≡ all → Fits from now xs → fits_with now [] ≡ fits_with from all
+fits_all {from = from} {all = all} is p = sym (fits_then is p []) ∙ ap (fits_with from) (append-nil all)
+
+-- ---- characters that are put together
+
+-- where a decoder has taken these bytes, and their characters stand there
+pub record Stands (from now : Utf16) (xs there : List ℕ) : Type 0 where
+  pub text : (more : List ℕ) → text_left from (xs ++ more) ≡ there ++ text_left now more
+
+pub stands_start : (u : Utf16) → Stands u u [] []
+stands_start u = record { text = λ more. refl }
+
+-- one run more, and what stands there then
+pub stands_more : {from now then : Utf16} {xs there : List ℕ} (ys all grown : List ℕ) → all ≡ xs ++ ys → Stands from now xs there → ((more : List ℕ) → there ++ text_left now (ys ++ more) ≡ grown ++ text_left then more) → Stands from then all grown
+stands_more {from = from} {xs = xs} ys all grown is p taken = record {
+  text = λ more. ap (λ (z : List ℕ). text_left from (z ++ more)) is ∙ ap (text_left from) (append_assoc xs ys more) ∙ p.text (ys ++ more) ∙ taken more;
+}
+
+-- a byte, whose character is put behind the others
+pub byte_put : (now then : Utf16) (byte : ℕ) (one : Option ℕ) (there grown : List ℕ) → grown ≡ there ++ character_text one → ((more : List ℕ) → text_left now (byte ∷ more) ≡ character_text one ++ text_left then more)
+    → (more : List ℕ) → there ++ text_left now (byte ∷ more) ≡ grown ++ text_left then more
+byte_put now then byte one there grown is taken more =
+    ap (λ (z : List ℕ). there ++ z) (taken more) ∙ sym (append_assoc there (character_text one) (text_left then more)) ∙ ap (λ (z : List ℕ). z ++ text_left then more) (sym is)
+
+-- all was taken
+pub stands_then : {from now : Utf16} {xs all there : List ℕ} → xs ≡ all → Stands from now xs there → (more : List ℕ) → text_left from (all ++ more) ≡ there ++ text_left now more
+stands_then {from = from} is p more = ap (λ (z : List ℕ). text_left from (z ++ more)) (sym is) ∙ p.text more

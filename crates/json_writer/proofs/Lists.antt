@@ -1,8 +1,8 @@
 -- Texts of lists, element by element.
-use Rattle.std.proofs.Common.{◌≡◌, ℕ, zero, suc, ◌+◌, ◌<◌, List, [], ◌∷◌, ◌++◌, length, get_or, take, drop, ap, sym, ◌∙◌, append_assoc, inl, inr, arith}
+use Rattle.std.proofs.Common.{ℕ, zero, suc, ◌+◌, ◌-◌, ◌*◌, ◌/◌, ◌%◌, ◌<◌, ◌≤◌, ◌≡◌, List, [], ◌∷◌, ◌++◌, length, get_or, take, drop, ap, sym, ◌∙◌, append_assoc, inl, inr, arith}
 use Rattle.std.specs.List.{flat_map}
 use Rattle.std.proofs.lemmas.Bool.{cases_lt}
-use Rattle.std.proofs.lemmas.List.{append-nil, drop_more, take_more}
+use Rattle.std.proofs.lemmas.List.{append-nil, drop_more, take_all, take_more, take-append-drop}
 use Rattle.std.proofs.lemmas.List.Concat.{flat_map-append}
 use Rattle.carrier_io.specs.Pieces.{joined}
 use Rattle.json.specs.Print.{escape_byte, escape}
@@ -18,6 +18,28 @@ next_item f xs k d lt = ap (flat_map f) (drop_more xs k d lt)
 pub item_more : {X : Type 0} (f : X → List ℕ) (xs : List X) (k : ℕ) (d : X) → k < length xs → flat_map f (take (k + 1) xs) ≡ flat_map f (take k xs) ++ f (get_or xs k d)
 item_more f xs k d lt =
     ap (flat_map f) (take_more xs k d lt) ∙ flat_map-append f (take k xs) (get_or xs k d ∷ []) ∙ ap (λ (z : List ℕ). flat_map f (take k xs) ++ z) (append-nil (f (get_or xs k d)))
+
+-- two parts of a list, and their texts
+pub split_parts : {X : Type 0} (n : ℕ) (xs few after : List X) → few ≡ take n xs → after ≡ drop n xs → xs ≡ few ++ after
+split_parts n xs few after f a = rw (f, a) (sym (take-append-drop n xs))
+
+pub item_parts : {X : Type 0} (f : X → List ℕ) (n : ℕ) (xs few after : List X) → few ≡ take n xs → after ≡ drop n xs → flat_map f xs ≡ flat_map f few ++ flat_map f after
+item_parts f n xs few after e a = ap (flat_map f) (split_parts n xs few after e a) ∙ flat_map-append f few after
+
+-- two elements more
+pub take_two : {X : Type 0} (xs : List X) (k : ℕ) (d : X) → 2 * k + 1 < length xs → take (2 * (k + 1)) xs ≡ take (2 * k) xs ++ (get_or xs (2 * k) d ∷ get_or xs (2 * k + 1) d ∷ [])
+take_two {X = X} xs k d lt =
+    let same : 2 * (k + 1) ≡ 2 * k + 1 + 1 = omega arith in
+    let first : 2 * k < length xs = omega (arith, lt) in
+    ap (λ n. take n xs) same ∙ take_more xs (2 * k + 1) d lt ∙ ap (λ (z : List X). z ++ (get_or xs (2 * k + 1) d ∷ [])) (take_more xs (2 * k) d first) ∙ append_assoc (take (2 * k) xs) (get_or xs (2 * k) d ∷ []) (get_or xs (2 * k + 1) d ∷ [])
+
+-- pairs, and one element behind them
+pub pairs_and_one : {X : Type 0} (xs : List X) (d : X) → length xs % 2 ≡ 1 → xs ≡ take (2 * (length xs / 2)) xs ++ (get_or xs (length xs - 1) d ∷ [])
+pairs_and_one xs d odd =
+    let at : length xs - 1 ≡ 2 * (length xs / 2) = omega (arith, odd) in
+    let lt : length xs - 1 < length xs = omega (arith, odd) in
+    let whole : length xs ≤ length xs - 1 + 1 = omega arith in
+    sym (take_all (length xs - 1 + 1) xs whole) ∙ take_more xs (length xs - 1) d lt ∙ ap (λ n. take n xs ++ (get_or xs (length xs - 1) d ∷ [])) at
 
 -- all pieces are those up to one, that one, and others
 pub joined_parts : (part : ℕ → List ℕ) (k count : ℕ) → k < count → (z : List ℕ) × (joined part count ≡ joined part k ++ (part k ++ z))

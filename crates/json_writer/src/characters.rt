@@ -1,16 +1,14 @@
 //! Characters in JSON strings.
 ghost use Rattle.std.specs.Prelude.{◌≡◌, ◌<◌, IfSome, unwrap_or};
-ghost use Rattle.std.specs.Char.{encode_utf8};
 ghost use Rattle.json.specs.Print.{escape_byte, escape_letter, escape, quoted};
 ghost use Rattle.json_writer.specs.Counted.{Counts};
-ghost use Rattle.json_writer.specs.Units.{character_text};
 
 use crate::appending::append;
 use carrier_io::{Failed, Sink};
 use prop_names::lower_digits2;
 
 /// The letter of a byte that has a short escape. [RFC 8259, section 7]
-fn short_escape(byte: u8) -> Option<u8>
+pub(crate) fn short_escape(byte: u8) -> Option<u8>
     ensures letter { unwrap_or result 0 ≡ escape_letter byte }
     ensures some { IfSome result (λ letter. 0 < letter) }
 {
@@ -56,32 +54,6 @@ fn append_escaped<W: Sink>(sink: &mut W, count: &mut u64, bytes: &[u8]) -> Resul
         append_byte(sink, count, *byte)?;
     }
     Ok(())
-}
-
-/// Appends a character of a string, in UTF-8.
-pub(crate) fn append_character<W: Sink>(
-    sink: &mut W,
-    count: &mut u64,
-    character: char,
-) -> Result<(), Failed>
-    ensures { Counts (W.held sink.old) (W.held sink.new) (W.faults sink.old) (W.faults sink.new) count.old count.new result (escape (encode_utf8 character)) }
-{
-    let mut buffer = [0; 4];
-    append_escaped(sink, count, character.encode_utf8(&mut buffer).as_bytes())
-}
-
-/// Appends a character, where there is one.
-pub(crate) fn append_some<W: Sink>(
-    sink: &mut W,
-    count: &mut u64,
-    character: Option<char>,
-) -> Result<(), Failed>
-    ensures { Counts (W.held sink.old) (W.held sink.new) (W.faults sink.old) (W.faults sink.new) count.old count.new result (character_text character) }
-{
-    match character {
-        Some(character) => append_character(sink, count, character),
-        None => append(sink, count, b""),
-    }
 }
 
 /// Appends a string by its bytes in UTF-8. Failed says that the sink failed. [RFC 8259, section 7]

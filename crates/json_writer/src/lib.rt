@@ -2,6 +2,7 @@
 #![tactic(auto)]
 
 mod appending;
+mod buffers;
 mod characters;
 mod digits;
 mod numbers;

@@ -1,5 +1,5 @@
 //! Texts: strings where their units are well-formed, and else their bytes as digits. [RFC 8259, section 8]
-ghost use Rattle.std.specs.Prelude.{◌≡◌, ◌∷◌, ◌++◌, [], ℕ, List, None, OnOk, codes};
+ghost use Rattle.std.specs.Prelude.{◌≡◌, ◌∷◌, ◌++◌, ◌*◌, ◌/◌, [], ℕ, List, None, OnOk, codes, length, take};
 ghost use Rattle.carrier_model.specs.Bytes.{units_of, unit_bytes};
 ghost use Rattle.serde_json.specs.Data.{object, member, no_members};
 ghost use Rattle.serde_json.specs.Written.{compact_text};
@@ -11,20 +11,24 @@ ghost use Rattle.json_writer.specs.Decoded.{text_left, fits_with};
 ghost use Rattle.json_writer.specs.Units.{units_text, all_fit};
 
 use crate::appending::append;
-use crate::characters::append_some;
+use crate::buffers::{CHUNK, ROOM, put_few, put_few_units};
 use crate::digits::{append_all_pairs, append_pairs};
 use crate::utf16::Utf16;
-use carrier_io::{Blob, Failed, Sink, SureSink};
+use carrier_io::{Blob, Failed, Sink};
 
 /// A text by its bytes, the low byte of each unit first.
 trait Utf16Bytes {
-    ghost use Rattle.std.specs.Prelude.{◌≡◌, List, ℕ, [], OnOk};
+    ghost use Rattle.std.specs.Prelude.{◌≡◌, List, ℕ, []};
     ghost use Rattle.json_model.specs.Digits.{hex};
     ghost use Rattle.json_writer.specs.Counted.{Counts};
     ghost use Rattle.json_writer.specs.Decoded.{text_left, fits_with};
 
     /// The bytes.
     ghost bytes: { Self → List ℕ };
+
+    /// Lets a decoder take them.
+    fn decode(&self, decoder: &mut Utf16)
+        ensures { fits_with decoder.new [] ≡ fits_with decoder.old (bytes self.now) };
 
     /// Appends the characters that a decoder makes of them.
     fn append_decoded<W: Sink>(
@@ -33,8 +37,7 @@ trait Utf16Bytes {
         count: &mut u64,
         decoder: &mut Utf16,
     ) -> Result<(), Failed>
-        ensures text { Counts (W.held sink.old) (W.held sink.new) (W.faults sink.old) (W.faults sink.new) count.old count.new result (text_left decoder.old (bytes self.now)) }
-        ensures fits { OnOk result (fits_with decoder.new [] ≡ fits_with decoder.old (bytes self.now)) };
+        ensures { Counts (W.held sink.old) (W.held sink.new) (W.faults sink.old) (W.faults sink.new) count.old count.new result (text_left decoder.old (bytes self.now)) };
 
     /// Appends two digits a byte.
     fn append_hex<W: Sink>(&self, sink: &mut W, count: &mut u64) -> Result<(), Failed>
@@ -49,6 +52,53 @@ struct BlobText<'b, B: Blob>(&'b B);
 #[derive(Drop)]
 struct UnitText<'u>(&'u [u16]);
 
+/// Lets a decoder take two bytes.
+#[inline(always)]
+fn decode_pair(decoder: &mut Utf16, low: u8, high: u8)
+    ensures { (more : List ℕ) → fits_with decoder.old (low ∷ high ∷ more) ≡ fits_with decoder.new more }
+{
+    decoder.take_byte(low);
+    decoder.take_byte(high);
+}
+
+/// Lets a decoder take one piece without an odd byte at the end.
+fn decode_pairs(decoder: &mut Utf16, bytes: &[u8])
+    ensures { (more : List ℕ) → fits_with decoder.old (take (2 * (length bytes.now / 2)) bytes.now ++ more) ≡ fits_with decoder.new more }
+{
+    for k in 0..bytes.len() / 2 {
+        decode_pair(decoder, bytes[2 * k], bytes[2 * k + 1]);
+    }
+}
+
+/// Lets a decoder take one piece.
+fn decode_piece(decoder: &mut Utf16, bytes: &[u8])
+    ensures { (more : List ℕ) → fits_with decoder.old (bytes.now ++ more) ≡ fits_with decoder.new more }
+{
+    decode_pairs(decoder, bytes);
+    if bytes.len() % 2 != 0 {
+        decoder.take_byte(bytes[bytes.len() - 1]);
+    }
+}
+
+/// Lets a decoder take all pieces.
+fn decode_pieces<B: Blob>(decoder: &mut Utf16, text: &B)
+    ensures { fits_with decoder.new [] ≡ fits_with decoder.old (B.bytes text.now) }
+{
+    for k in 0..text.pieces() {
+        decode_piece(decoder, text.piece(k));
+    }
+}
+
+/// Lets a decoder take units.
+fn decode_units(decoder: &mut Utf16, units: &[u16])
+    ensures { fits_with decoder.new [] ≡ fits_with decoder.old (unit_bytes units.now) }
+{
+    for unit in units {
+        let [low, high] = unit.to_le_bytes();
+        decode_pair(decoder, low, high);
+    }
+}
+
 /// Appends the characters that a decoder makes of one piece.
 fn append_piece<W: Sink>(
     sink: &mut W,
@@ -58,10 +108,14 @@ fn append_piece<W: Sink>(
 ) -> Result<(), Failed>
     ensures text { Counts (W.held sink.old) (W.held sink.new) (W.faults sink.old) (W.faults sink.new) count.old count.new result (text_left decoder.old bytes.now) }
     ensures next { OnOk result ((more : List ℕ) → text_left decoder.old (bytes.now ++ more) ≡ text_left decoder.old bytes.now ++ text_left decoder.new more) }
-    ensures fits { OnOk result ((more : List ℕ) → fits_with decoder.old (bytes.now ++ more) ≡ fits_with decoder.new more) }
 {
-    for byte in bytes {
-        append_some(sink, count, decoder.take_byte(*byte))?;
+    let mut buffer = [0; ROOM];
+    let mut rest = bytes;
+    while !rest.is_empty() {
+        let (few, after) = rest.split_at(rest.len().min(CHUNK));
+        let used = put_few(&mut buffer, decoder, few);
+        append(sink, count, &buffer[..used])?;
+        rest = after;
     }
     Ok(())
 }
@@ -73,8 +127,7 @@ fn append_pieces<B: Blob, W: Sink>(
     decoder: &mut Utf16,
     text: &B,
 ) -> Result<(), Failed>
-    ensures text { Counts (W.held sink.old) (W.held sink.new) (W.faults sink.old) (W.faults sink.new) count.old count.new result (text_left decoder.old (B.bytes text.now)) }
-    ensures fits { OnOk result (fits_with decoder.new [] ≡ fits_with decoder.old (B.bytes text.now)) }
+    ensures { Counts (W.held sink.old) (W.held sink.new) (W.faults sink.old) (W.faults sink.new) count.old count.new result (text_left decoder.old (B.bytes text.now)) }
 {
     for k in 0..text.pieces() {
         append_piece(sink, count, decoder, text.piece(k))?;
@@ -89,11 +142,15 @@ fn append_units<W: Sink>(
     decoder: &mut Utf16,
     units: &[u16],
 ) -> Result<(), Failed>
-    ensures text { Counts (W.held sink.old) (W.held sink.new) (W.faults sink.old) (W.faults sink.new) count.old count.new result (text_left decoder.old (unit_bytes units.now)) }
-    ensures fits { OnOk result (fits_with decoder.new [] ≡ fits_with decoder.old (unit_bytes units.now)) }
+    ensures { Counts (W.held sink.old) (W.held sink.new) (W.faults sink.old) (W.faults sink.new) count.old count.new result (text_left decoder.old (unit_bytes units.now)) }
 {
-    for unit in units {
-        append_piece(sink, count, decoder, &unit.to_le_bytes())?;
+    let mut buffer = [0; ROOM];
+    let mut rest = units;
+    while !rest.is_empty() {
+        let (few, after) = rest.split_at(rest.len().min(CHUNK / 2));
+        let used = put_few_units(&mut buffer, decoder, few);
+        append(sink, count, &buffer[..used])?;
+        rest = after;
     }
     Ok(())
 }
@@ -110,6 +167,10 @@ fn append_unit_pairs<W: Sink>(sink: &mut W, count: &mut u64, units: &[u16]) -> R
 
 impl<'b, B: Blob> Utf16Bytes for BlobText<'b, B> {
     ghost bytes = { λ s. B.bytes s.0.now };
+
+    fn decode(&self, decoder: &mut Utf16) {
+        decode_pieces(decoder, self.0)
+    }
 
     fn append_decoded<W: Sink>(
         &self,
@@ -130,6 +191,10 @@ impl<'u> Utf16Bytes for UnitText<'u> {
 
     ghost bytes = { λ s. unit_bytes s.0.now };
 
+    fn decode(&self, decoder: &mut Utf16) {
+        decode_units(decoder, self.0)
+    }
+
     fn append_decoded<W: Sink>(
         &self,
         sink: &mut W,
@@ -149,10 +214,8 @@ fn is_well_formed<T: Utf16Bytes>(text: &T) -> bool
     ensures { result ≡ all_fit None (units_of (T.bytes text.now)) }
 {
     let mut decoder = Utf16::new();
-    match text.append_decoded(&mut SureSink::new(), &mut 0, &mut decoder) {
-        Ok(()) => decoder.is_whole(),
-        Err(_) => unreachable!(),
-    }
+    text.decode(&mut decoder);
+    decoder.is_whole()
 }
 
 /// Appends the characters in quotes.

@@ -17,6 +17,7 @@ pub(crate) struct Utf16 {
 }
 
 /// The first unit of a pair.
+#[inline(always)]
 fn is_high(unit: u16) -> bool
     ensures { result ≡ is_high_surrogate unit }
 {
@@ -24,6 +25,7 @@ fn is_high(unit: u16) -> bool
 }
 
 /// The second one.
+#[inline(always)]
 fn is_low(unit: u16) -> bool
     ensures { result ≡ is_low_surrogate unit }
 {
@@ -31,6 +33,7 @@ fn is_low(unit: u16) -> bool
 }
 
 /// The character of a unit that is in no pair.
+#[inline(always)]
 fn lone_character(unit: u16) -> Option<char>
     ensures { result ≡ lone_unit_char unit }
 {
@@ -47,6 +50,7 @@ fn pair_character(high: u16, low: u16) -> Option<char>
 }
 
 /// The character that a unit completes.
+#[inline(always)]
 fn completed_by(high: Option<u16>, unit: u16) -> Option<char>
     ensures { result ≡ completed high unit }
 {
@@ -58,6 +62,7 @@ fn completed_by(high: Option<u16>, unit: u16) -> Option<char>
 }
 
 /// The unit, where it is the first of a pair.
+#[inline(always)]
 fn first_of_pair(unit: u16) -> Option<u16>
     ensures { result ≡ waiting None unit }
 {
@@ -81,6 +86,7 @@ impl Utf16 {
     }
 
     /// Takes a unit, and answers the character that it completes.
+    #[inline(always)]
     fn take_unit(&mut self, unit: u16) -> Option<char>
         ensures character { result ≡ completed self.old.high unit }
         ensures high { self.new.high ≡ waiting self.old.high unit }

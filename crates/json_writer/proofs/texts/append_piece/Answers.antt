@@ -1,13 +1,9 @@
-use Rattle.std.proofs.lemmas.List.{drop_more}
-use Rattle.json_writer.proofs.Decoding.{Takes, within_more, within_stops}
+use Rattle.json_writer.proofs.Decoding.{within_more, within_stops}
+use Rattle.json_writer.proofs.Lists.{split_parts}
 use Rattle.json_writer.proofs.texts.append_piece.Goals as goal
 
-pub returns-in_err-append_some-clause-text : goal.returns-in_err-append_some-clause-text
-returns-in_err-append_some-clause-text g c =
-    let taken : Takes _ _ _ _ = record { text = c.take_byte.ensures.text; fits = c.take_byte.ensures.fits } in
-    within_stops _ _ _ (drop_more c.args.bytes.now c.loop-byte.byte-index _ c.loop-byte-test.true) c.from_residual.ensures.0 c.loop-byte.invariant taken c.in_err-append_some.ensures
+pub returns-in_err-append-clause-text : goal.returns-in_err-append-clause-text
+returns-in_err-append-clause-text g c = within_stops c.put_few-used.new.decoder _ _ _ (split_parts _ c.loop-rest.rest.now _ _ c.split_at.ensures.front c.split_at.ensures.back) c.from_residual.ensures.0 c.loop-rest.invariant c.put_few-used.ensures.text c.in_err-append.ensures
 
-pub loop-byte-preserved : goal.loop-byte-preserved
-loop-byte-preserved g c =
-    let taken : Takes _ _ _ _ = record { text = c.take_byte.ensures.text; fits = c.take_byte.ensures.fits } in
-    within_more _ _ _ (drop_more c.args.bytes.now c.loop-byte.byte-index _ c.loop-byte-test.true) c.loop-byte.invariant taken c.in_ok-append_some.ensures
+pub loop-rest-preserved : goal.loop-rest-preserved
+loop-rest-preserved g c = within_more _ _ _ (split_parts _ c.loop-rest.rest.now _ _ c.split_at.ensures.front c.split_at.ensures.back) c.loop-rest.invariant c.put_few-used.ensures.text c.in_ok-append.ensures

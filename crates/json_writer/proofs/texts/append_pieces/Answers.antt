@@ -1,14 +1,12 @@
-use Rattle.std.proofs.Common.{◌≡◌, ◌∙◌, sym, ap, add-one, [], arith}
-use Rattle.std.proofs.lemmas.List.{append-nil}
+use Rattle.std.proofs.Common.{◌∙◌, sym, ap, add-one}
 use Rattle.carrier_io.specs.Pieces.{joined}
-use Rattle.json_writer.specs.Decoded.{fits_with}
 use Rattle.json_writer.proofs.Counted.{stops}
 use Rattle.json_writer.proofs.Decoding.{taken_more, taken_parts}
 use Rattle.json_writer.proofs.Lists.{joined_parts}
 use Rattle.json_writer.proofs.texts.append_pieces.Goals as goal
 
-pub returns-in_err-append_piece-clause-text : goal.returns-in_err-append_piece-clause-text
-returns-in_err-append_piece-clause-text g c =
+pub returns-in_err-append_piece : goal.returns-in_err-append_piece
+returns-in_err-append_piece g c =
     let x = c.args.text.now in
     let part = g.B.Blob.part x in
     let h = joined_parts part c.loop-k.k (g.B.Blob.count x) (rw c.pieces-k-end.ensures at c.loop-k-test.true) in
@@ -19,11 +17,4 @@ pub loop-k-preserved : goal.loop-k-preserved
 loop-k-preserved g c =
     let part = g.B.Blob.part c.args.text.now in
     taken_more (part c.loop-k.k) _ (ap (joined part) (add-one c.loop-k.k)) c.loop-k.invariant
-    (rw c.piece.ensures at c.in_ok-append_piece.ensures.text) (rw c.piece.ensures at c.in_ok-append_piece.ensures.next) (rw c.piece.ensures at c.in_ok-append_piece.ensures.fits)
-
-pub returns-clause-fits : goal.returns-clause-fits
-returns-clause-fits g c =
-    let x = c.args.text.now in
-    let last : c.loop-k.k ≡ g.B.Blob.count x = omega (arith, c.loop-k-test.false, c.loop-k.auto.k-end, c.pieces-k-end.ensures) in
-    let all : joined (g.B.Blob.part x) c.loop-k.k ≡ g.B.Blob.bytes x = ap (joined (g.B.Blob.part x)) last ∙ g.met.B.Blob.joins x in
-    sym (c.loop-k.invariant.fits []) ∙ ap (fits_with c.args.decoder.now) (append-nil (joined (g.B.Blob.part x) c.loop-k.k) ∙ all)
+    (rw c.piece.ensures at c.in_ok-append_piece.ensures.text) (rw c.piece.ensures at c.in_ok-append_piece.ensures.next)

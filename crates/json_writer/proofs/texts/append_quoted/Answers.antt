@@ -9,7 +9,7 @@ pub returns-in_err-append : goal.returns-in_err-append
 returns-in_err-append g c = failing (units_text None (units_of (g.T.Utf16Bytes.bytes c.args.text.now)) ++ 34 ∷ []) c.from_residual.ensures.0 c.in_err-append.ensures
 
 pub returns-in_err-append_decoded : goal.returns-in_err-append_decoded
-returns-in_err-append_decoded g c = andthen c.in_ok-append.ensures (failing (34 ∷ []) c.from_residual-in_err-append_decoded.ensures.0 (rw (c.new.ensures.low, c.new.ensures.high) at c.in_err-append_decoded.ensures.text))
+returns-in_err-append_decoded g c = andthen c.in_ok-append.ensures (failing (34 ∷ []) c.from_residual-in_err-append_decoded.ensures.0 (rw (c.new.ensures.low, c.new.ensures.high) at c.in_err-append_decoded.ensures))
 
 pub returns : goal.returns
-returns g c = andthen c.in_ok-append.ensures (andthen (rw (c.new.ensures.low, c.new.ensures.high) at c.in_ok-append_decoded.ensures.text) c.append-2.ensures)
+returns g c = andthen c.in_ok-append.ensures (andthen (rw (c.new.ensures.low, c.new.ensures.high) at c.in_ok-append_decoded.ensures) c.append-2.ensures)

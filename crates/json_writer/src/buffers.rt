@@ -1,0 +1,155 @@
+//! Texts of characters, put together before they are appended. [RFC 8259, section 7]
+ghost use Rattle.std.specs.Prelude.{◌≡◌, ◌≤◌, ◌<◌, ◌+◌, ◌*◌, ◌/◌, ◌∷◌, ◌++◌, ℕ, List, length, take, false};
+ghost use Rattle.std.specs.Char.{encode_utf8, is_ascii};
+ghost use Rattle.json.specs.Print.{escape_byte, escape_letter, escape};
+ghost use Rattle.carrier_model.specs.Bytes.{le16, unit_bytes};
+ghost use Rattle.json_writer.specs.Decoded.{text_left};
+ghost use Rattle.json_writer.specs.Units.{character_text};
+
+use crate::characters::short_escape;
+use crate::utf16::Utf16;
+use prop_names::lower_digits2;
+
+/// How many bytes are decoded at a time.
+pub(crate) const CHUNK: usize = 256;
+
+/// How many bytes their characters take at the most.
+pub(crate) const ROOM: usize = 6 * CHUNK;
+
+/// Puts bytes behind those that stand there, and answers how many stand there then.
+#[inline(always)]
+fn put(buffer: &mut [u8; ROOM], used: usize, bytes: &[u8]) -> usize
+    requires { used + length bytes.now ≤ ROOM }
+    ensures count { result ≡ used + length bytes.now }
+    ensures text { take result buffer.new ≡ take used buffer.old ++ bytes.now }
+{
+    let end = used + bytes.len();
+    buffer[used..end].copy_from_slice(bytes);
+    end
+}
+
+/// Puts what stands for a control character that has no short escape.
+fn put_control(buffer: &mut [u8; ROOM], used: usize, byte: u8) -> usize
+    requires small { byte < 32 }
+    requires long { escape_letter byte ≡ 0 }
+    requires room { used + 6 ≤ ROOM }
+    ensures count { result ≡ used + 6 }
+    ensures text { take result buffer.new ≡ take used buffer.old ++ escape_byte byte }
+{
+    let [high, low] = lower_digits2(byte);
+    put(buffer, used, &[b'\\', b'u', b'0', b'0', high, low])
+}
+
+/// Puts what stands for a byte of a string.
+#[inline(always)]
+fn put_byte(buffer: &mut [u8; ROOM], used: usize, byte: u8) -> usize
+    requires { used + 6 ≤ ROOM }
+    ensures count { result ≤ used + 6 }
+    ensures text { take result buffer.new ≡ take used buffer.old ++ escape_byte byte }
+{
+    match short_escape(byte) {
+        Some(letter) => put(buffer, used, &[b'\\', letter]),
+        None if byte < 0x20 => put_control(buffer, used, byte),
+        None => put(buffer, used, &[byte]),
+    }
+}
+
+/// Puts a character that is no ASCII.
+fn put_wide(buffer: &mut [u8; ROOM], used: usize, character: char) -> usize
+    requires wide { is_ascii character ≡ false }
+    requires room { used + 6 ≤ ROOM }
+    ensures count { result ≤ used + 6 }
+    ensures text { take result buffer.new ≡ take used buffer.old ++ escape (encode_utf8 character) }
+{
+    let mut bytes = [0; 4];
+    put(buffer, used, character.encode_utf8(&mut bytes).as_bytes())
+}
+
+/// Puts a character of a string, in UTF-8.
+#[inline(always)]
+fn put_character(buffer: &mut [u8; ROOM], used: usize, character: char) -> usize
+    requires { used + 6 ≤ ROOM }
+    ensures count { result ≤ used + 6 }
+    ensures text { take result buffer.new ≡ take used buffer.old ++ escape (encode_utf8 character) }
+{
+    if character.is_ascii() {
+        put_byte(buffer, used, character as u8)
+    } else {
+        put_wide(buffer, used, character)
+    }
+}
+
+/// Puts a character, where there is one.
+#[inline(always)]
+pub(crate) fn put_some(buffer: &mut [u8; ROOM], used: usize, character: Option<char>) -> usize
+    requires { used + 6 ≤ ROOM }
+    ensures count { result ≤ used + 6 }
+    ensures text { take result buffer.new ≡ take used buffer.old ++ character_text character }
+{
+    match character {
+        Some(character) => put_character(buffer, used, character),
+        None => used,
+    }
+}
+
+/// Puts the characters that a decoder makes of two bytes.
+#[inline(always)]
+fn put_pair(buffer: &mut [u8; ROOM], used: usize, decoder: &mut Utf16, low: u8, high: u8) -> usize
+    requires { used + 12 ≤ ROOM }
+    ensures count { result ≤ used + 12 }
+    ensures text { (more : List ℕ) → take used buffer.old ++ text_left decoder.old (low ∷ high ∷ more) ≡ take result buffer.new ++ text_left decoder.new more }
+{
+    let used = put_some(buffer, used, decoder.take_byte(low));
+    put_some(buffer, used, decoder.take_byte(high))
+}
+
+/// Puts the characters that a decoder makes of a few bytes without an odd one at the end.
+fn put_pairs(buffer: &mut [u8; ROOM], decoder: &mut Utf16, bytes: &[u8]) -> usize
+    requires { length bytes.now ≤ CHUNK }
+    ensures count { result ≤ 12 * (length bytes.now / 2) }
+    ensures text { (more : List ℕ) → text_left decoder.old (take (2 * (length bytes.now / 2)) bytes.now ++ more) ≡ take result buffer.new ++ text_left decoder.new more }
+{
+    let mut used = 0;
+    for k in 0..bytes.len() / 2 {
+        used = put_pair(buffer, used, decoder, bytes[2 * k], bytes[2 * k + 1]);
+    }
+    used
+}
+
+/// Puts the characters that a decoder makes of a few bytes, and answers how many bytes they take.
+pub(crate) fn put_few(buffer: &mut [u8; ROOM], decoder: &mut Utf16, bytes: &[u8]) -> usize
+    requires { length bytes.now ≤ CHUNK }
+    ensures count { result ≤ ROOM }
+    ensures text { (more : List ℕ) → text_left decoder.old (bytes.now ++ more) ≡ take result buffer.new ++ text_left decoder.new more }
+{
+    let used = put_pairs(buffer, decoder, bytes);
+    if bytes.len() % 2 == 0 {
+        used
+    } else {
+        put_some(buffer, used, decoder.take_byte(bytes[bytes.len() - 1]))
+    }
+}
+
+/// Puts the characters that a decoder makes of a unit.
+#[inline(always)]
+fn put_unit(buffer: &mut [u8; ROOM], used: usize, decoder: &mut Utf16, unit: u16) -> usize
+    requires { used + 12 ≤ ROOM }
+    ensures count { result ≤ used + 12 }
+    ensures text { (more : List ℕ) → take used buffer.old ++ text_left decoder.old (le16 unit ++ more) ≡ take result buffer.new ++ text_left decoder.new more }
+{
+    let [low, high] = unit.to_le_bytes();
+    put_pair(buffer, used, decoder, low, high)
+}
+
+/// Puts the characters that a decoder makes of a few units, and answers how many bytes they take.
+pub(crate) fn put_few_units(buffer: &mut [u8; ROOM], decoder: &mut Utf16, units: &[u16]) -> usize
+    requires { 2 * length units.now ≤ CHUNK }
+    ensures count { result ≤ ROOM }
+    ensures text { (more : List ℕ) → text_left decoder.old (unit_bytes units.now ++ more) ≡ take result buffer.new ++ text_left decoder.new more }
+{
+    let mut used = 0;
+    for unit in units {
+        used = put_unit(buffer, used, decoder, *unit);
+    }
+    used
+}
