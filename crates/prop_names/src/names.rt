@@ -68,9 +68,8 @@ impl Name {
         ensures order { result ≡ name_cmp (name_of self.now) (name_of other.now) }
         ensures equal { (result ≡ Ordering.Equal) ↔ (name_of self.now ≡ name_of other.now) }
     {
-        let one = self.set();
-        let two = other.set();
-        one.0.cmp(&two.0).then(self.label_order(other))
+        let sets = self.set().0.cmp(&other.set().0);
+        sets.then_with(|| self.label_order(other))
     }
 
     fn label_order(&self, other: &Name) -> Ordering
