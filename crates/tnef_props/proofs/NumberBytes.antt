@@ -1,5 +1,5 @@
 -- Numbers of bytes.
-use Rattle.std.proofs.Common.{◌≡◌, ℕ, ◌+◌, ◌*◌, List, [], ◌∷◌, length, take, drop, arith}
+use Rattle.std.proofs.Common.{◌≡◌, ℕ, List, [], ◌∷◌, length, take, drop, arith}
 use Rattle.std.specs.Int.{w64, from_le_bytes}
 use Rattle.carrier_model.specs.Bytes.{le_number}
 
