@@ -75,7 +75,7 @@ impl SureSink {
 }
 
 impl Sink for SureSink {
-    ghost use Rattle.std.specs.Prelude.{◌≡◌, ◌<◌, ℕ, List, Option, None, length, take, IfOk, Ok, MatchResult};
+    ghost use Rattle.std.specs.Prelude.{◌≡◌, ◌<◌, length, take, IfOk, Ok, MatchResult};
     ghost use Rattle.std.specs.Io.{WritesAtMost};
     ghost use Rattle.std.specs.Io.KnownBytes.{Appends};
     ghost use Rattle.carrier_io.specs.Causes.{HasCause};

@@ -1,5 +1,5 @@
 //! The files of a compound file.
-ghost use Rattle.std.specs.Prelude.{◌≡◌, ◌<◌, ◌≤◌, ℕ, List, true, vec_len, map, All};
+ghost use Rattle.std.specs.Prelude.{◌≡◌, ◌<◌, ℕ, List, true, vec_len, map, All};
 ghost use Rattle.cfb_sectors.specs.States.{entries};
 ghost use Rattle.cfb_directory.specs.Families.{family_at, index_at, names_at};
 ghost use Rattle.cfb_directory.specs.Named.{first_named, are_apart, key_of, name_at};

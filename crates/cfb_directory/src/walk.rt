@@ -1,6 +1,6 @@
 //! The walk over a directory, by a list of pending links.
 ghost use Rattle.std.specs.Prelude.{◌≡◌, ℕ, ◌+◌, ◌<◌, ◌≤◌, ◌++◌, ◌∷◌, List, [], length, IfOk, OnOk, All};
-ghost use Rattle.carrier_model.specs.Links.{visited, is_storage};
+ghost use Rattle.carrier_model.specs.Links.{visited};
 ghost use Rattle.carrier_model.specs.Marks.{Marks, unmarked};
 ghost use Rattle.carrier_io.specs.Reads.{Gives};
 ghost use Rattle.cfb_sectors.specs.Took.{Tells};

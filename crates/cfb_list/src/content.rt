@@ -1,5 +1,5 @@
 //! What is in a storage, as it was added.
-ghost use Rattle.std.specs.Prelude.{◌≡◌, ◌<◌, ◌≤◌, length, IfOk};
+ghost use Rattle.std.specs.Prelude.{◌≡◌, ◌<◌, length, IfOk};
 ghost use Rattle.carrier_model.specs.FileTrees.{sibling_cmp};
 
 use crate::few_bytes::FewBytes;

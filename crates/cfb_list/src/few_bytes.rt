@@ -1,5 +1,5 @@
 //! Few bytes that stand in place.
-ghost use Rattle.std.specs.Prelude.{◌≡◌, ◌<◌, ◌≤◌, length, take, IfNone, IfSome};
+ghost use Rattle.std.specs.Prelude.{◌≡◌, ◌<◌, ◌≤◌, length, IfNone, IfSome};
 
 /// At most 14 bytes.
 #[derive(Clone, Copy)]

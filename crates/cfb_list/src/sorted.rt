@@ -1,5 +1,5 @@
 //! A list whose storages are in order.
-ghost use Rattle.std.specs.Prelude.{◌≡◌, ◌<◌, ◌+◌, Some, length, slice_get, IfOk};
+ghost use Rattle.std.specs.Prelude.{◌≡◌, ◌<◌, Some, length, slice_get, IfOk};
 ghost use Rattle.cfb_list.specs.Contents.{file_seen, storages_of};
 ghost use Rattle.cfb_list.specs.Listed as listed;
 ghost use Rattle.cfb_list.specs.Sorting.{siblings_in_order};

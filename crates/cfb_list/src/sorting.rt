@@ -1,5 +1,5 @@
 //! Siblings in their order.
-ghost use Rattle.std.specs.Prelude.{◌≡◌, ◌<◌, ◌≤◌, ◌++◌, Some, All, flat_map, length, map, slice_get, vec_len, IfOk, OnOk};
+ghost use Rattle.std.specs.Prelude.{◌≡◌, ◌<◌, ◌++◌, Some, All, flat_map, length, map, slice_get, IfOk, OnOk};
 ghost use Rattle.carrier_model.specs.FileTrees.{sibling_cmp};
 ghost use Rattle.cfb_list.specs.Contents.{children_of, file_children, file_seen, name_seen, storages_of};
 ghost use Rattle.cfb_list.specs.Listed.{name_of};

@@ -1,5 +1,5 @@
 //! Directory entries.
-ghost use Rattle.std.specs.Prelude.{◌≡◌, ◌+◌, ◌*◌, ◌<◌, ◌≤◌, ◌^◌, ℕ, length, map, take, drop, All, IsTrue};
+ghost use Rattle.std.specs.Prelude.{◌≡◌, ◌+◌, ◌*◌, ◌<◌, ◌≤◌, length, map, take, drop, All, IsTrue};
 ghost use Rattle.std.specs.List.{range_with_len};
 ghost use Rattle.carrier_model.specs.Sectors.{is_size, u16_of, whole_count};
 ghost use Rattle.carrier_model.specs.Entries.{entry_at, entry_count, entry_place, size_at};

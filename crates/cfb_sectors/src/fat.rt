@@ -1,5 +1,5 @@
 //! A table of words, one for each sector.
-ghost use Rattle.std.specs.Prelude.{◌≡◌, ℕ, ◌<◌, ◌≤◌, ◌*◌, vec_len, IsTrue, List, []};
+ghost use Rattle.std.specs.Prelude.{◌≡◌, ◌<◌, ◌≤◌, ◌*◌, vec_len, IsTrue, []};
 ghost use Rattle.carrier_model.specs.Chains.{word};
 ghost use Rattle.carrier_model.specs.Sectors.{is_size, word_offset};
 ghost use Rattle.carrier_io.specs.Steps.{stepped};

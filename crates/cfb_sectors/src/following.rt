@@ -1,5 +1,5 @@
 //! Sectors that a table links.
-ghost use Rattle.std.specs.Prelude.{◌≡◌, ℕ, ◌+◌, ◌<◌, ◌≤◌, vec_len, length, IfOk, All};
+ghost use Rattle.std.specs.Prelude.{◌≡◌, ◌+◌, ◌<◌, ◌≤◌, vec_len, length, IfOk, All};
 ghost use Rattle.carrier_model.specs.Marks.{mark_all, unmarked, Stops};
 ghost use Rattle.carrier_io.specs.Steps.{stepped};
 

@@ -1,5 +1,5 @@
 //! The header.
-ghost use Rattle.std.specs.Prelude.{◌≡◌, ℕ, ◌+◌, ◌≤◌, length, IfOk, IsTrue};
+ghost use Rattle.std.specs.Prelude.{◌≡◌, ◌+◌, ◌≤◌, length, IfOk, IsTrue};
 ghost use Rattle.carrier_model.specs.Sectors.{is_size, sector_count, u16_of, u32_of};
 ghost use Rattle.carrier_model.specs.Tables.{major, sector_shift, sector_size, header_of};
 ghost use Rattle.cfb_sectors.specs.Took.{Tells};

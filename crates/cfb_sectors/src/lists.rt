@@ -1,7 +1,7 @@
 //! The sectors that hold the table, and those that name them.
 ghost use Rattle.std.specs.Prelude.{◌≡◌, ℕ, ◌+◌, ◌*◌, ◌/◌, ◌-◌, ◌≤◌, ◌<◌, ◌^◌, ◌++◌, ◌∷◌, List, [], length, IfOk, All, vec_len, IsTrue};
 ghost use Rattle.carrier_model.specs.Marks.{Marks, unmarked};
-ghost use Rattle.carrier_model.specs.Sectors.{is_size, u32_of, sector_count, whole_count};
+ghost use Rattle.carrier_model.specs.Sectors.{is_size, sector_count, whole_count};
 ghost use Rattle.carrier_model.specs.Tables.{sector_of, fat_place, fat_sectors_of, difat_of, difat_count};
 ghost use Rattle.carrier_io.specs.Reads.{Gives};
 ghost use Rattle.carrier_io.specs.Reasons.{number_of};

@@ -1,6 +1,5 @@
 //! The header, the table and the directory's chain.
-ghost use Rattle.std.specs.Prelude.{◌≡◌, ℕ, ◌+◌, ◌≤◌, ◌<◌, ◌++◌, List, [], length, IfOk, IfErr, All, vec_len, IsTrue};
-ghost use Rattle.carrier_model.specs.Chains.{chain_of};
+ghost use Rattle.std.specs.Prelude.{◌≡◌, ◌+◌, ◌≤◌, ◌<◌, [], length, IfOk, IfErr, All, vec_len};
 ghost use Rattle.carrier_model.specs.Loads.{tables_of, taken_first};
 ghost use Rattle.carrier_model.specs.Marks.{Marks, unmarked};
 ghost use Rattle.carrier_model.specs.Sectors.{sector_count, whole_count};

@@ -1,5 +1,5 @@
 //! Which sectors are taken.
-ghost use Rattle.std.specs.Prelude.{◌≡◌, ℕ, ◌<◌, List, Bool, false, true, length, get_or, set, replicate, IfOk};
+ghost use Rattle.std.specs.Prelude.{◌≡◌, ◌<◌, List, Bool, false, true, length, get_or, set, replicate, IfOk};
 
 use std::alloc::{AllocError, Global};
 use std::marker::Model;

@@ -1,5 +1,5 @@
 //! The mini FAT and the mini stream.
-ghost use Rattle.std.specs.Prelude.{◌≡◌, ℕ, ◌+◌, ◌*◌, ◌≤◌, ◌<◌, ◌^◌, ◌++◌, List, true, length, IfOk, All, vec_len, IsTrue};
+ghost use Rattle.std.specs.Prelude.{◌≡◌, ℕ, ◌+◌, ◌*◌, ◌≤◌, ◌<◌, ◌^◌, ◌++◌, List, true, length, IfOk, All, vec_len};
 ghost use Rattle.carrier_model.specs.Chains.{chain_of};
 ghost use Rattle.carrier_model.specs.Loads.{mini_of, chain_bound};
 ghost use Rattle.carrier_model.specs.Marks.{Marks, unmarked};

@@ -200,7 +200,7 @@ impl<'a> StreamView<'a> {
 }
 
 impl<'a> Blob for StreamView<'a> {
-    ghost use Rattle.std.specs.Prelude.{ℕ, List, refl};
+    ghost use Rattle.std.specs.Prelude.{refl};
     ghost use Rattle.std.specs.Int.{div_ceil};
     ghost use Rattle.cfb_sectors.specs.Seen.{bytes_of, piece_of, piece_count};
     ghost use Rattle.carrier_io.specs.Pieces.{joined};

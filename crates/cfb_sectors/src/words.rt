@@ -1,5 +1,5 @@
 //! The words of a table.
-ghost use Rattle.std.specs.Prelude.{◌≡◌, ℕ, ◌+◌, ◌*◌, ◌/◌, ◌≤◌, ◌<◌, ◌++◌, List, length, IfOk, OnOk, All, vec_len, IsTrue};
+ghost use Rattle.std.specs.Prelude.{◌≡◌, ◌+◌, ◌*◌, ◌/◌, ◌≤◌, ◌<◌, ◌++◌, length, IfOk, OnOk, All, vec_len, IsTrue};
 ghost use Rattle.carrier_model.specs.Sectors.{is_size, whole_count, sector_words, table_words};
 
 use crate::header::long;

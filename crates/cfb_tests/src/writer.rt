@@ -1,5 +1,5 @@
 //! What a list of storages and streams is written as.
-ghost use Rattle.std.specs.Prelude.{◌≡◌, ◌≤◌, length, vec_len, IfOk};
+ghost use Rattle.std.specs.Prelude.{◌≡◌, length, IfOk};
 
 use crate::files::{END, FOUR, FREE, Layout, Row, THREE, file_of, filled, put, put_names};
 use carrier_io::{Blob, MemorySink, NoMemory, u32_at, write_gathered};
@@ -172,7 +172,7 @@ struct Counted {
 }
 
 impl Blob for Counted {
-    ghost use Rattle.std.specs.Prelude.{ℕ, List, refl};
+    ghost use Rattle.std.specs.Prelude.{refl};
 
     ghost bytes = { λ c. c.bytes.items };
 

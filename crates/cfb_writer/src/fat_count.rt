@@ -1,5 +1,5 @@
 //! The least number of sectors of a FAT.
-ghost use Rattle.std.specs.Prelude.{◌≡◌, ◌≤◌, ◌+◌, ◌*◌, ◌/◌, ◌^◌};
+ghost use Rattle.std.specs.Prelude.{◌≡◌, ◌≤◌, ◌+◌, ◌^◌};
 ghost use Rattle.carrier_model.specs.Layout as layout;
 ghost use Rattle.carrier_model.specs.Tables as tables;
 ghost use Rattle.cfb_writer.specs.Versions.{sector_of};

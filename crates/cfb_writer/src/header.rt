@@ -1,5 +1,5 @@
 //! The header.
-ghost use Rattle.std.specs.Prelude.{◌≡◌, ◌≤◌, ◌+◌, ◌++◌};
+ghost use Rattle.std.specs.Prelude.{◌≡◌, ◌+◌, ◌++◌};
 ghost use Rattle.carrier_model.specs.Layout as layout;
 ghost use Rattle.cfb_writer.specs.Numbered.{plan_seen, IsSmall};
 ghost use Rattle.carrier_io.specs.Summed.{Sums};

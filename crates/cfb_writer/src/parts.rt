@@ -1,5 +1,5 @@
 //! How many sectors the parts of a file have, and how many bytes the whole.
-ghost use Rattle.std.specs.Prelude.{◌≡◌, ◌≤◌, ◌<◌, ◌^◌, ◌↔◌, ℕ, IsTrue};
+ghost use Rattle.std.specs.Prelude.{◌≡◌, ◌<◌, ◌^◌, ◌↔◌, ℕ, IsTrue};
 ghost use Rattle.carrier_model.specs.Totals.{capped};
 ghost use Rattle.cfb_writer.specs.Measures.{CanBeTold, IsMeasure, parts_seen, sectors_in};
 ghost use Rattle.cfb_writer.specs.Numbered.{plan_seen};

@@ -1,5 +1,5 @@
 //! Words of the FAT, the mini FAT and the DIFAT, run by run.
-ghost use Rattle.std.specs.Prelude.{◌≡◌, ◌<◌, ◌≤◌, ◌+◌, ◌^◌};
+ghost use Rattle.std.specs.Prelude.{◌≡◌, ◌<◌, ◌^◌};
 ghost use Rattle.std.specs.List.{AllByRecursion, flat_map};
 ghost use Rattle.carrier_model.specs.Layout as layout;
 ghost use Rattle.cfb_writer.specs.Runs.{words_of, word_at, last_of};

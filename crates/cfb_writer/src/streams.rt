@@ -1,5 +1,5 @@
 //! The streams of the mini stream, and those with sectors of their own.
-ghost use Rattle.std.specs.Prelude.{◌≡◌, ◌≤◌, ◌<◌, ◌+◌, List, ℕ};
+ghost use Rattle.std.specs.Prelude.{◌≡◌, ◌≤◌, ◌+◌, List, ℕ};
 ghost use Rattle.std.specs.List.{flat_map};
 ghost use Rattle.carrier_model.specs.Layout as layout;
 ghost use Rattle.cfb_list.specs.Contents.{bytes_seen, child_seen};

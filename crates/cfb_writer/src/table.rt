@@ -1,5 +1,5 @@
 //! The FAT, the mini FAT, and the DIFAT sectors.
-ghost use Rattle.std.specs.Prelude.{◌≡◌, ◌≤◌, ◌<◌, ◌+◌};
+ghost use Rattle.std.specs.Prelude.{◌≡◌, ◌<◌};
 ghost use Rattle.carrier_model.specs.Layout as layout;
 ghost use Rattle.cfb_writer.specs.Laid.{slots_in};
 ghost use Rattle.cfb_writer.specs.Numbered.{plan_seen, front_words, next_list, IsSmall, IsPlanFor};

@@ -1,7 +1,5 @@
 //! Edits, computed on small trees and few words.
 ghost use Rattle.std.specs.Prelude.{◌≡◌, ◌∷◌, [], codes, Some, None, Ok, Err};
-ghost use Rattle.carrier_model.specs.SmallTrees.{integer32};
-ghost use Rattle.carrier_model.specs.Tree.{message, no_more};
 ghost use Rattle.edit_model.specs.EditTexts.{edit_text};
 ghost use Rattle.edit_model.specs.EditWords.{edits_of};
 ghost use Rattle.edit_model.specs.Edits.{no_place, no_property};

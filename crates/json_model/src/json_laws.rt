@@ -1,6 +1,6 @@
 //! Laws about values of trees.
 ghost use Rattle.std.specs.Prelude.{◌≡◌, ◌≤◌, ◌⊎◌, ℕ, List, false, Ok, Err};
-ghost use Rattle.carrier_model.specs.Tree.{Message, depth as levels};
+ghost use Rattle.carrier_model.specs.Tree.{Message};
 ghost use Rattle.carrier_model.specs.Trees.{IsTree};
 ghost use Rattle.serde_json.specs.Data.{Data, depth};
 ghost use Rattle.serde_json.specs.Read.{max_depth};

@@ -1,5 +1,5 @@
 //! The header of a mail entity.
-ghost use Rattle.std.specs.Prelude.{◌≡◌, ℕ, ◌+◌, ◌<◌, ◌≤◌, ◌^◌, ◌++◌, List, length, true, IfOk, MatchResult, Ok, Err};
+ghost use Rattle.std.specs.Prelude.{◌≡◌, ◌+◌, ◌<◌, ◌^◌, ◌++◌, length, true, IfOk, MatchResult, Ok, Err};
 ghost use Rattle.carrier_io.specs.Reasons.{fault_of};
 ghost use Rattle.mail_model.specs.Lines as text;
 ghost use Rattle.mail_model.specs.Entities as entity;

@@ -1,5 +1,5 @@
 //! The lines that part a multipart.
-ghost use Rattle.std.specs.Prelude.{◌≡◌, ℕ, ◌++◌, List, codes};
+ghost use Rattle.std.specs.Prelude.{◌≡◌, ◌++◌, codes};
 
 use crate::text::is_mark;
 use carrier_io::NoMemory;

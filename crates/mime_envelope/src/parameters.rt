@@ -1,5 +1,5 @@
 //! The Content-Type field's value.
-ghost use Rattle.std.specs.Prelude.{◌≡◌, ℕ, ◌+◌, ◌≤◌, List, length, map, IfOk};
+ghost use Rattle.std.specs.Prelude.{◌≡◌, ◌≤◌, length, IfOk};
 ghost use Rattle.mail_model.specs.Lines as text;
 ghost use Rattle.mail_model.specs.Entities as entity;
 ghost use Rattle.mime_envelope.specs.Views.{text_view};

@@ -1,5 +1,5 @@
 //! The parts of a multipart.
-ghost use Rattle.std.specs.Prelude.{◌≡◌, ℕ, ◌≤◌, List, length, take};
+ghost use Rattle.std.specs.Prelude.{◌≡◌, ◌≤◌, length, take};
 ghost use Rattle.std.specs.List.{concat, list_any};
 ghost use Rattle.mail_model.specs.Lines as text;
 ghost use Rattle.mail_model.specs.Entities as entity;

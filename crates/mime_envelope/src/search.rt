@@ -1,10 +1,9 @@
 //! The search for the first TNEF part.
-ghost use Rattle.std.specs.Prelude.{◌≡◌, ℕ, ◌+◌, ◌<◌, ◌≤◌, ◌^◌, List, length, IfOk, IfSome};
+ghost use Rattle.std.specs.Prelude.{◌≡◌, ◌+◌, ◌<◌, ◌≤◌, ◌^◌, length, IfOk, IfSome};
 ghost use Rattle.carrier_io.specs.Reads.{Gives};
 ghost use Rattle.mail_model.specs.Lines as text;
 ghost use Rattle.mail_model.specs.Entities as entity;
 ghost use Rattle.mail_model.specs.Envelope as envelope;
-ghost use Rattle.mime_envelope.specs.Views.{text_view};
 ghost use Rattle.mime_envelope.specs.Parts.{found_view, boundary_test, first_in, part_at};
 
 use crate::header::{Field, body_of, find_field};

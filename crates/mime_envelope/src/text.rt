@@ -1,6 +1,6 @@
 //! Lines and words of a mail text.
-ghost use Rattle.std.specs.Prelude.{◌≡◌, ℕ, ◌+◌, ◌<◌, ◌≤◌, ◌∷◌, ◌++◌, List, length, take, drop};
-ghost use Rattle.std.specs.List.{prefix_len, suffix_len};
+ghost use Rattle.std.specs.Prelude.{◌≡◌, ◌+◌, ◌<◌, ◌≤◌, ◌∷◌, ◌++◌, length};
+ghost use Rattle.std.specs.List.{prefix_len};
 ghost use Rattle.std.specs.Str.{str_eq_ignore_ascii_case};
 ghost use Rattle.mail_model.specs.Lines as text;
 

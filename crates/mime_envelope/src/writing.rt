@@ -1,5 +1,5 @@
 //! Writing the canonical envelope.
-ghost use Rattle.std.specs.Prelude.{◌≡◌, ℕ, ◌≤◌, ◌<◌, ◌++◌, List, length};
+ghost use Rattle.std.specs.Prelude.{◌≡◌, ℕ, ◌≤◌, ◌++◌, List, length};
 ghost use Rattle.carrier_io.specs.Known.{Writes};
 ghost use Rattle.mail_model.specs.Base64.{base64_text};
 ghost use Rattle.mail_model.specs.EnvelopeText.{line_end, body_lines, envelope_of};

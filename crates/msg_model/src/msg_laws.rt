@@ -1,5 +1,5 @@
 //! Laws about .msg files.
-ghost use Rattle.std.specs.Prelude.{◌≡◌, ◌≤◌, ℕ, Bool, List, [], length, IsPermutation, Ok, Err, Option, IsTrue};
+ghost use Rattle.std.specs.Prelude.{◌≡◌, ◌≤◌, ℕ, List, [], length, IsPermutation, Ok, Err, Option};
 ghost use Rattle.carrier_model.specs.Bytes.{AllBytes, MOST_BYTES};
 ghost use Rattle.carrier_model.specs.FileTrees.{sorted};
 ghost use Rattle.carrier_model.specs.Files.{Children, Files};

@@ -1,5 +1,5 @@
 //! Names and properties of .msg files, computed on small files.
-ghost use Rattle.std.specs.Prelude.{◌≡◌, ◌∷◌, ◌++◌, [], Ok, Err, false, replicate};
+ghost use Rattle.std.specs.Prelude.{◌≡◌, ◌∷◌, [], Ok, Err, false, replicate};
 ghost use Rattle.carrier_model.specs.Bytes.{le32};
 ghost use Rattle.carrier_model.specs.Keys.{numbered};
 ghost use Rattle.msg_model.specs.WrittenMsg.{msg_of};

@@ -3,7 +3,6 @@ ghost use Rattle.std.specs.Prelude.{◌≡◌, ◌+◌, ◌*◌, ◌≤◌, leng
 ghost use Rattle.std.specs.Option.{option_map};
 ghost use Rattle.carrier_io.specs.Reads.{Gives};
 ghost use Rattle.carrier_model.specs.Keys.{IsName};
-ghost use Rattle.carrier_model.specs.Sectors.{u32_of};
 ghost use Rattle.cfb_sectors.specs.Seen.{bytes_of, stream as stream_seen};
 ghost use Rattle.msg_model.specs.NameMap as model;
 ghost use Rattle.prop_names.specs.Meaning.{name_of};

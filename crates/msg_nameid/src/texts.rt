@@ -1,5 +1,5 @@
 //! Texts of a name map.
-ghost use Rattle.std.specs.Prelude.{◌≡◌, ◌+◌, ◌≤◌, ◌%◌, length, take, drop, IfOk};
+ghost use Rattle.std.specs.Prelude.{◌≡◌, ◌+◌, ◌≤◌, length, take, drop, IfOk};
 ghost use Rattle.carrier_io.specs.Reads.{Gives};
 ghost use Rattle.carrier_model.specs.Bytes.{units_of};
 ghost use Rattle.carrier_model.specs.Sectors.{u32_of};

@@ -1,5 +1,5 @@
 //! The stream of a list's entries.
-ghost use Rattle.std.specs.Prelude.{◌≡◌, ◌<◌, ◌≤◌, ◌^◌, ◌-◌, ◌++◌, length, drop, filter, not, take, flat_map, map, List, IfOk, OnOk};
+ghost use Rattle.std.specs.Prelude.{◌≡◌, ◌<◌, ◌≤◌, ◌^◌, ◌++◌, length, flat_map, map, List, IfOk, OnOk};
 ghost use Rattle.carrier_model.specs.Bytes as octets;
 ghost use Rattle.carrier_model.specs.Keys as keys;
 ghost use Rattle.carrier_model.specs.Values as plain;

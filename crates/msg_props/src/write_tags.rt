@@ -1,6 +1,5 @@
 //! The tags of properties.
 ghost use Rattle.std.specs.Prelude.{◌≡◌, IfOk, map};
-ghost use Rattle.carrier_model.specs.Keys as keys;
 ghost use Rattle.msg_model.specs.ReadBack.{NamesAmong};
 ghost use Rattle.msg_model.specs.WrittenMsg.{number_of_key, tag_of};
 ghost use Rattle.msg_nameid.specs.Maps.{IsAssigned, names_in};

@@ -1,5 +1,5 @@
 //! The bytes of values of several numbers or GUIDs, and the lengths of several texts.
-ghost use Rattle.std.specs.Prelude.{◌≡◌, ◌<◌, ◌*◌, ◌-◌, ◌++◌, length, flat_map, All, IfOk, OnOk};
+ghost use Rattle.std.specs.Prelude.{◌≡◌, ◌<◌, ◌-◌, ◌++◌, length, flat_map, All, IfOk, OnOk};
 ghost use Rattle.carrier_model.specs.Bytes as octets;
 ghost use Rattle.carrier_model.specs.Values as plain;
 ghost use Rattle.msg_model.specs.WrittenMsg.{length_words};

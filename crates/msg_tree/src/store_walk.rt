@@ -1,7 +1,7 @@
 //! The stores of a whole tree.
 ghost use Rattle.std.specs.Prelude.{IsTrue, ◌↔◌};
 ghost use Rattle.msg_tree.specs.Keeping.{HasStores, BodyHasStores};
-ghost use Rattle.msg_tree.specs.Meaning.{tree_of, list_of, attached_of};
+ghost use Rattle.msg_tree.specs.Meaning.{tree_of, attached_of};
 
 use crate::messages::{Attachment, Body, Message};
 use crate::store_shape::is_store;

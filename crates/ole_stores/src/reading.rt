@@ -1,5 +1,5 @@
 //! The store that a storage of a compound file is. [MS-CFB 1.3, MS-OXMSG 2.2.2]
-ghost use Rattle.std.specs.Prelude.{◌≡◌, ◌<◌, ◌≤◌, ℕ, IfOk, IfErr, IfSome, IsSome, OnOk, Some, Ok, Err, slice_get};
+ghost use Rattle.std.specs.Prelude.{◌≡◌, IfOk, IfSome, IsSome, Some, Ok, Err, slice_get};
 ghost use Rattle.carrier_io.specs.Reads.{Gives, Reads};
 ghost use Rattle.carrier_model.specs.Stores.{store_in, StoreMeans};
 ghost use Rattle.carrier_model.specs.Streams.{Stream};

@@ -1,8 +1,7 @@
 //! The texts that tell the message of bytes in hand.
-ghost use Rattle.std.specs.Prelude.{◌≡◌, ◌≤◌, List, Option, length, IfOk, IfErr};
+ghost use Rattle.std.specs.Prelude.{◌≡◌, ◌≤◌, length};
 ghost use Rattle.carrier_io.specs.Causes.{Rose};
 ghost use Rattle.carrier_model.specs.Bytes.{MOST_BYTES};
-ghost use Rattle.carrier_io.specs.Known.{Writes};
 ghost use Rattle.job_model.specs.Signatures.{is_compound};
 ghost use Rattle.msg_tree.specs.Whole.{meaning_in, plain_of};
 ghost use Rattle.outlook_cli.specs.Outcome.{IsText, TellsText, WritesNothing, carrier_by, shown, checked, status_of};

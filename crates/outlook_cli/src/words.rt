@@ -1,7 +1,6 @@
 //! The words of a command.
-ghost use Rattle.std.specs.Prelude.{◌≡◌, ◌≤◌, IfOk, IfSome};
+ghost use Rattle.std.specs.Prelude.{◌≡◌, IfOk, IfSome};
 ghost use Rattle.std.specs.Option.{option_map};
-ghost use Rattle.job_model.specs.Commands as plain;
 ghost use Rattle.job_model.specs.Commands.{command_among, command_of, edit_of, other_of, sample_of, words_of_one};
 ghost use Rattle.outlook_cli.specs.Words.{command_seen, texts, IsSample};
 

@@ -1,5 +1,5 @@
 //! Keys in print.
-ghost use Rattle.std.specs.Prelude.{◌≡◌, ◌∷◌};
+ghost use Rattle.std.specs.Prelude.{◌∷◌};
 ghost use Rattle.carrier_model.specs.KeyTexts.{key_text, name_text, label_text, set_text, guid_text, quoted_text, unit_text, hex_digits, upper};
 ghost use Rattle.std.specs.List.{flat_map};
 ghost use Rattle.carrier_io.specs.Known.{Writes};

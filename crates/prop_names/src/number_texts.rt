@@ -1,5 +1,5 @@
 //! Numbers in print.
-ghost use Rattle.std.specs.Prelude.{◌≡◌, decimal};
+ghost use Rattle.std.specs.Prelude.{decimal};
 ghost use Rattle.carrier_io.specs.Known.{Writes};
 
 use carrier_io::{Failed, Sink, write_pieces};

@@ -1,5 +1,5 @@
 //! A list that is put into another order in place.
-ghost use Rattle.std.specs.Prelude.{◌≡◌, ℕ, length, map, slice_index_or, IfOk, OnOk};
+ghost use Rattle.std.specs.Prelude.{◌≡◌, length, map, slice_index_or, IfOk, OnOk};
 ghost use Rattle.prop_values.specs.Arranged.{ArePlaces, AreInverse};
 
 use carrier_io::NoMemory;

@@ -40,7 +40,7 @@ pub enum SettleEnd {
 
 impl From<NoMemory> for SettleEnd {
     ghost use Rattle.prop_values.specs.declared.arrivals.SettleEnd.TheVariants.{NoMemory as Wanting};
-    ghost use Rattle.std.specs.Prelude.{◌≡◌, ◌↔◌};
+    ghost use Rattle.std.specs.Prelude.{◌≡◌};
 
     ghost from_gives = { λ _ e. e ≡ Wanting };
 

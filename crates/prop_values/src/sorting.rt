@@ -1,6 +1,5 @@
 //! The order of properties by key and kind.
-ghost use Rattle.std.specs.Prelude.{◌≡◌, ℕ, List, [], ◌∷◌, ◌++◌, length, map, IfOk, IsTrue, ◌↔◌, IsPermutation};
-ghost use Rattle.std.specs.Ordering.{nat_cmp, ordering_then};
+ghost use Rattle.std.specs.Prelude.{◌≡◌, length, map, IfOk, IsTrue, ◌↔◌, IsPermutation};
 ghost use Rattle.carrier_model.specs.Values as plain;
 ghost use Rattle.prop_names.specs.Meaning.{name_of};
 ghost use Rattle.prop_values.specs.Arrivals.{AreInPlace, IsSortedByPair, IsLeastDouble, IsOrderOf};

@@ -3,7 +3,7 @@ ghost use Rattle.std.specs.Prelude.{◌≡◌, ◌∷◌, [], codes, Some, None}
 ghost use Rattle.std.specs.Option.{option_map};
 ghost use Rattle.carrier_model.specs.Keys.{id};
 ghost use Rattle.carrier_model.specs.SmallTrees.{integer32, string_prop};
-ghost use Rattle.carrier_model.specs.Tree.{message, no_more, attached, nothing, embedded};
+ghost use Rattle.carrier_model.specs.Tree.{message, no_more, attached, embedded};
 ghost use Rattle.carrier_model.specs.Values.{bytes, parts};
 ghost use Rattle.text8_model.specs.Pages.{windows_1252, latin_1, us_ascii, utf_8};
 ghost use Rattle.text8_model.specs.Texts.{units_in, bad_place};

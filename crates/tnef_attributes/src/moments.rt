@@ -1,5 +1,5 @@
 //! Moments of the civil calendar.
-ghost use Rattle.std.specs.Prelude.{◌≡◌, ◌↔◌, ◌*◌, ◌+◌, ◌<◌, ◌≤◌, IsSome, IfSome, IsTrue, length, slice_index, if◌then◌else◌, ◌==◌, ◌&&◌};
+ghost use Rattle.std.specs.Prelude.{◌≡◌, ◌↔◌, ◌*◌, ◌+◌, ◌<◌, ◌≤◌, IsSome, IfSome, IsTrue, length, slice_index, ◌==◌, ◌&&◌};
 ghost use Rattle.tnef_model.specs.Moments.{is_day, day_number, is_time_of_day, second_number, is_moment, ticks_of};
 ghost use Rattle.carrier_model.specs.Bytes.{units_of};
 

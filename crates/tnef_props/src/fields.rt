@@ -1,5 +1,5 @@
 //! Fields of a property list, one after another.
-ghost use Rattle.std.specs.Prelude.{◌≡◌, ◌+◌, ◌≤◌, ℕ, List, length, IfOk, IfErr};
+ghost use Rattle.std.specs.Prelude.{ℕ, List, IfOk, IfErr};
 ghost use Rattle.tnef_model.specs.TnefLists as lists;
 ghost use Rattle.carrier_model.specs.Bytes as octets;
 ghost use Rattle.tnef_props.specs.Steps.{Takes, Refuses};

@@ -1,5 +1,5 @@
 //! What stands in a list.
-ghost use Rattle.std.specs.Prelude.{◌≡◌, ◌+◌, ◌*◌, ◌%◌, ◌/◌, ◌<◌, ◌≤◌, ◌&&◌, ℕ, List, length, IfOk, IfErr, MatchOption, nat_eq, true, false};
+ghost use Rattle.std.specs.Prelude.{◌≡◌, ◌%◌, ◌&&◌, IfOk, IfErr, MatchOption, nat_eq, true, false};
 ghost use Rattle.tnef_model.specs.TnefLists as lists;
 ghost use Rattle.prop_values.specs.Kinds.{kind_number};
 ghost use Rattle.tnef_props.specs.Meaning.{item_of};

@@ -1,5 +1,5 @@
 //! Property lists.
-ghost use Rattle.std.specs.Prelude.{◌≡◌, ◌+◌, ◌<◌, ◌≤◌, ◌∷◌, ◌++◌, ℕ, List, Bool, [], length, drop, filter_map, IfOk, IfErr, OnOk, OnErr};
+ghost use Rattle.std.specs.Prelude.{◌≡◌, ◌+◌, ◌≤◌, ◌∷◌, ◌++◌, ℕ, List, Bool, [], length, drop, filter_map, IfOk, IfErr, OnOk, OnErr};
 ghost use Rattle.std.specs.Option.{option_map};
 ghost use Rattle.tnef_model.specs.TnefLists as lists;
 ghost use Rattle.carrier_io.specs.Reads.{OnFault, FaultOnly};

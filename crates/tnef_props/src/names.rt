@@ -1,5 +1,5 @@
 //! Names of properties in a list.
-ghost use Rattle.std.specs.Prelude.{◌≡◌, ◌<◌, ◌≤◌, ◌^◌, ◌%◌, ℕ, List, length, IfOk, IfErr, nat_le};
+ghost use Rattle.std.specs.Prelude.{◌≤◌, IfOk, IfErr, nat_le};
 ghost use Rattle.tnef_model.specs.TnefLists as lists;
 ghost use Rattle.carrier_model.specs.Grammar as forms;
 ghost use Rattle.carrier_model.specs.Keys.{IsName, IsKey};

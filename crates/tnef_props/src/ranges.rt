@@ -1,5 +1,5 @@
 //! Ranges of a list as they are written.
-ghost use Rattle.std.specs.Prelude.{◌≡◌, ◌≤◌, ◌-◌, length};
+ghost use Rattle.std.specs.Prelude.{◌≡◌, ◌≤◌, length};
 ghost use Rattle.carrier_io.specs.Known.{Writes};
 ghost use Rattle.carrier_model.specs.Bytes.{sum16};
 ghost use Rattle.tnef_model.specs.TnefCanonical as canon;

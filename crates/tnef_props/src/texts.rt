@@ -1,5 +1,5 @@
 //! Texts and their nulls.
-ghost use Rattle.std.specs.Prelude.{◌≡◌, ◌<◌, ◌^◌, ◌%◌, ℕ, List, length, IfOk, IfErr, nat_eq};
+ghost use Rattle.std.specs.Prelude.{◌≡◌, IfOk, IfErr, nat_eq};
 ghost use Rattle.tnef_model.specs.TnefLists as lists;
 ghost use Rattle.carrier_model.specs.Bytes as octets;
 ghost use Rattle.carrier_model.specs.Kinds as kinds;

@@ -25,7 +25,7 @@ struct Kept<'a> {
 }
 
 impl<'a> Blob for Kept<'a> {
-    ghost use Rattle.std.specs.Prelude.{ℕ, List, refl};
+    ghost use Rattle.std.specs.Prelude.{refl};
 
     ghost bytes = { λ k. k.bytes.now };
 

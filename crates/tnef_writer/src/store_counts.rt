@@ -1,6 +1,6 @@
 //! The stores of a message, one by one, with those of all messages below it.
 ghost use Rattle.std.specs.Prelude.{◌≡◌, ◌+◌, ◌<◌, ◌≤◌, ◌^◌, length, take, drop};
-ghost use Rattle.msg_tree.specs.Meaning.{tree_of, list_of, attached_of};
+ghost use Rattle.msg_tree.specs.Meaning.{tree_of, attached_of};
 ghost use Rattle.tnef_writer.specs.TreeStores.{stores_in, stores_at};
 
 use carrier_io::Blob;

@@ -2,7 +2,7 @@
 ghost use Rattle.std.specs.Prelude.{◌≡◌, [], ◌∷◌, OnOk};
 ghost use Rattle.carrier_model.specs.Stores.{IsStore};
 ghost use Rattle.msg_tree.specs.Keeping.{HasStores, BodyHasStores};
-ghost use Rattle.msg_tree.specs.Meaning.{tree_of, list_of, attached_of};
+ghost use Rattle.msg_tree.specs.Meaning.{tree_of, attached_of};
 ghost use Rattle.msg_tree.specs.StoreMeaning.{store_of};
 ghost use Rattle.tnef_writer.specs.Gathered.{Gathers};
 ghost use Rattle.tnef_writer.specs.TreeStores.{stores_in, stores_at};

@@ -1,5 +1,5 @@
 //! Attributes with lists of properties.
-ghost use Rattle.std.specs.Prelude.{◌≡◌, ◌+◌, ◌≤◌, ◌<◌, ◌^◌, ℕ, List, length, All, flat_map};
+ghost use Rattle.std.specs.Prelude.{◌≡◌, ◌+◌, ◌≤◌, ◌<◌, ◌^◌, List, length, All, flat_map};
 ghost use Rattle.carrier_model.specs.Keys.{Name};
 ghost use Rattle.tnef_model.specs.TnefCanonical as canon;
 ghost use Rattle.carrier_model.specs.Totals.{capped};

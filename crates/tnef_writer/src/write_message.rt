@@ -1,5 +1,5 @@
 //! The canonical stream of a message, written as it is made.
-ghost use Rattle.std.specs.Prelude.{◌≡◌, ◌≤◌, ◌<◌, ◌^◌, ◌++◌, ◌+◌, ℕ, All, length};
+ghost use Rattle.std.specs.Prelude.{◌≡◌, ◌≤◌, ◌<◌, ◌^◌, ◌++◌, ◌+◌, All, length};
 ghost use Rattle.tnef_model.specs.LegacyAttributes as plain_ids;
 ghost use Rattle.tnef_model.specs.TnefCanonical as canon;
 ghost use Rattle.carrier_model.specs.Tree as plain;

@@ -1,5 +1,5 @@
 //! The Objects of attachments, which hold messages and stores.
-ghost use Rattle.std.specs.Prelude.{◌≡◌, ◌++◌, ℕ, List, length};
+ghost use Rattle.std.specs.Prelude.{◌≡◌, List, length};
 ghost use Rattle.carrier_model.specs.Keys.{Name};
 ghost use Rattle.carrier_model.specs.Totals.{capped};
 ghost use Rattle.tnef_writer.specs.Carried.{IsCarried, interface_of, object_head, object_value};

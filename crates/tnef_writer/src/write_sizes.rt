@@ -1,10 +1,10 @@
 //! How long the canonical stream of a message is. A number that is above the greatest `u64` stays there.
-ghost use Rattle.std.specs.Prelude.{◌≡◌, ℕ, List, length, map};
+ghost use Rattle.std.specs.Prelude.{◌≡◌, List, length, map};
 ghost use Rattle.std.specs.Option.{option_map};
 ghost use Rattle.carrier_model.specs.Keys.{Name};
 ghost use Rattle.tnef_model.specs.TnefCanonical as canon;
 ghost use Rattle.carrier_model.specs.Totals.{capped};
-ghost use Rattle.msg_tree.specs.Meaning.{tree_of, list_of, attached_of};
+ghost use Rattle.msg_tree.specs.Meaning.{tree_of, attached_of};
 ghost use Rattle.tnef_writer.specs.TreeStores.{stores_in, stores_at, sizes_of};
 ghost use Rattle.tnef_writer.specs.Written.{attachment_bytes};
 

@@ -1,5 +1,5 @@
 //! Streams put into mails, and taken out of them.
-ghost use Rattle.std.specs.Prelude.{◌≡◌, ◌≤◌, length};
+ghost use Rattle.std.specs.Prelude.{◌≤◌, length};
 ghost use Rattle.carrier_model.specs.Bytes.{MOST_BYTES};
 ghost use Rattle.job_model.specs.Commands.{wrap as plain_wrap, unwrap as plain_unwrap};
 ghost use Rattle.translate_core.specs.Ends.{Caused, Tells, WritesNothing};

@@ -1,5 +1,5 @@
 //! A message taken through all its forms, step by step.
-ghost use Rattle.std.specs.Prelude.{◌≡◌, ◌≤◌, length};
+ghost use Rattle.std.specs.Prelude.{◌≤◌, length};
 ghost use Rattle.carrier_model.specs.Bytes.{AllBytes, MOST_BYTES};
 ghost use Rattle.translate_core.specs.Jobs.{job_seen};
 ghost use Rattle.translate_core.specs.Trips.{TellsStep, TellsTrip};

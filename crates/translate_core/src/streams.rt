@@ -1,6 +1,5 @@
 //! Messages written as TNEF streams.
-ghost use Rattle.std.specs.Prelude.{◌≡◌, ◌≤◌, ◌+◌, List, ℕ};
-ghost use Rattle.carrier_io.specs.Causes.{HasCause};
+ghost use Rattle.std.specs.Prelude.{List, ℕ};
 ghost use Rattle.job_model.specs.Commands.{to_tnef};
 ghost use Rattle.msg_tree.specs.Whole.{plain_of};
 ghost use Rattle.translate_core.specs.Ends.{Caused, Puts, WritesNothing};

@@ -1,5 +1,5 @@
 //! The translation of bytes in hand.
-ghost use Rattle.std.specs.Prelude.{◌≡◌, ◌≤◌, length};
+ghost use Rattle.std.specs.Prelude.{◌≤◌, length};
 ghost use Rattle.carrier_model.specs.Bytes.{MOST_BYTES};
 ghost use Rattle.job_model.specs.Commands as commands;
 ghost use Rattle.translate_core.specs.Ends.{Caused, Tells, WritesNothing};

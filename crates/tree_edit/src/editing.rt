@@ -1,5 +1,5 @@
 //! Edits of one part of a message, done in place. Each call answers how many of the edits behind the first were done.
-ghost use Rattle.std.specs.Prelude.{◌≡◌, ◌≤◌, ℕ, List, [], ◌∷◌, ◌++◌, drop, length, map, take, ◌<◌, OnOk, IfOk, IfErr, Ok, Err};
+ghost use Rattle.std.specs.Prelude.{◌≡◌, ◌≤◌, [], drop, length, map, take, ◌<◌, IfOk, IfErr, Ok, Err};
 ghost use Rattle.edit_model.specs.Edits.{at_path, at_spot, body_with, changed_at, with_body, with_props};
 ghost use Rattle.msg_tree.specs.Meaning.{tree_of, list_of, body_of};
 ghost use Rattle.edit_words.specs.Meaning.{edit_of, spot_of};

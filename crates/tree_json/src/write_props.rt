@@ -1,11 +1,11 @@
 //! Properties and lists of them.
-ghost use Rattle.std.specs.Prelude.{◌≡◌, ◌-◌, map, OnOk};
+ghost use Rattle.std.specs.Prelude.{◌-◌, map, OnOk};
 ghost use Rattle.std.specs.List.{AllByRecursion};
 ghost use Rattle.carrier_model.specs.Keys as keys;
 ghost use Rattle.carrier_model.specs.Sorted.{IsStrictlySorted};
 ghost use Rattle.carrier_model.specs.Values.{prop_cmp};
 ghost use Rattle.json_model.specs.ByteTrees.{AreBytes, ValueHasBytes};
-ghost use Rattle.json_model.specs.Properties.{key_json, kind_json, bytes_json, value_json, prop_json, props_json, number_json, hex_json, listed_json};
+ghost use Rattle.json_model.specs.Properties.{key_json, bytes_json, value_json, prop_json, props_json, number_json, hex_json, listed_json};
 ghost use Rattle.json_writer.specs.Counted.{Counts};
 ghost use Rattle.serde_json.specs.Written.{compact_text};
 ghost use Rattle.prop_names.specs.Meaning.{name_of, key_of};

@@ -1,7 +1,7 @@
 //! The messages in messages of samples.
-ghost use Rattle.std.specs.Prelude.{◌≡◌, ◌+◌, ◌<◌, ◌≤◌, [], IfOk};
+ghost use Rattle.std.specs.Prelude.{◌≡◌, ◌+◌, ◌<◌, [], IfOk};
 ghost use Rattle.carrier_model.specs.Tree.{embedded};
-ghost use Rattle.text_model.specs.SampleTrees.{level_props, level_message};
+ghost use Rattle.text_model.specs.SampleTrees.{level_message};
 ghost use Rattle.msg_tree.specs.Meaning.{tree_of, attached_of};
 
 use crate::small_props::subject;

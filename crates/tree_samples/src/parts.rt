@@ -1,5 +1,5 @@
 //! The recipients and plain attachments of samples.
-ghost use Rattle.std.specs.Prelude.{◌≡◌, ◌+◌, ◌*◌, ◌%◌, ◌<◌, ◌≤◌, [], ◌∷◌, map, IfOk};
+ghost use Rattle.std.specs.Prelude.{◌≡◌, ◌<◌, map, IfOk};
 ghost use Rattle.std.specs.List.{range_with_len};
 ghost use Rattle.text_model.specs.SampleTrees.{sample_recipient, sample_data, plain_attachment};
 ghost use Rattle.msg_tree.specs.Meaning.{attached_of};

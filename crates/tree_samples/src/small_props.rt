@@ -1,5 +1,5 @@
 //! The properties of samples.
-ghost use Rattle.std.specs.Prelude.{◌≡◌, ◌<◌, ◌≤◌, ◌^◌, length, codes, IfOk, string_bytes};
+ghost use Rattle.std.specs.Prelude.{◌≡◌, ◌<◌, length, IfOk};
 ghost use Rattle.carrier_model.specs.SmallTrees.{wide, string_prop, integer32};
 ghost use Rattle.text_model.specs.SampleTrees.{named_prop};
 ghost use Rattle.text_model.specs.TreeTexts.{counted};

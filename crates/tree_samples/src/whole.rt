@@ -1,5 +1,5 @@
 //! The tree of a number.
-ghost use Rattle.std.specs.Prelude.{◌≡◌, ◌≤◌, ◌<◌, ◌%◌, IfOk};
+ghost use Rattle.std.specs.Prelude.{◌≡◌, ◌≤◌, ◌<◌, IfOk};
 ghost use Rattle.text_model.specs.SampleTrees.{GREATEST_SAMPLE};
 ghost use Rattle.text_model.specs.SampleTrees.{sample_props, sample_attachments, sample_tree};
 ghost use Rattle.msg_tree.specs.Meaning.{list_of};

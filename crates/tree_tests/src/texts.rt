@@ -22,7 +22,7 @@ struct Halves<'a> {
 }
 
 impl<'a> Blob for Halves<'a> {
-    ghost use Rattle.std.specs.Prelude.{ℕ, List, refl, ◌++◌, [], ◌∷◌, slice_index_or};
+    ghost use Rattle.std.specs.Prelude.{refl, ◌++◌, [], ◌∷◌, slice_index_or};
 
     ghost bytes = { λ h. h.first.now ++ h.second.now };
 

@@ -1,11 +1,10 @@
 //! How much there is in a tree, and what was passed over beside it.
-ghost use Rattle.std.specs.Prelude.{◌≡◌, ◌<◌, ◌++◌, codes, decimal, length};
+ghost use Rattle.std.specs.Prelude.{◌≡◌};
 ghost use Rattle.std.specs.List.{flat_map};
 ghost use Rattle.carrier_io.specs.Known.{Writes};
 ghost use Rattle.carrier_io.specs.Lists.{passed_of};
-ghost use Rattle.carrier_model.specs.Totals.{capped, all_messages, all_recipients, all_attachments, all_properties};
 ghost use Rattle.carrier_model.specs.Tree as plain;
-ghost use Rattle.text_model.specs.TreeTexts.{line, counted, count_lines, passed_word, passed_line, carrier_word, check_text};
+ghost use Rattle.text_model.specs.TreeTexts.{line, count_lines, passed_word, passed_line, carrier_word, check_text};
 ghost use Rattle.msg_tree.specs.Whole.{plain_of};
 ghost use Rattle.tree_texts.specs.Carriers.{carrier_of};
 

@@ -1,5 +1,5 @@
 //! Lines, and what several of them have.
-ghost use Rattle.std.specs.Prelude.{◌≡◌, ◌≤◌, ◌++◌, replicate, codes, decimal};
+ghost use Rattle.std.specs.Prelude.{◌≤◌, replicate};
 ghost use Rattle.carrier_io.specs.Known.{Writes};
 ghost use Rattle.text_model.specs.TreeTexts.{line, counted};
 ghost use Rattle.tree_texts.specs.Sizes.{size_line};

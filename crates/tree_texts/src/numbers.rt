@@ -1,6 +1,6 @@
 //! Numbers, by their kind.
 ghost use Rattle.std.specs.List.{flat_map};
-ghost use Rattle.std.specs.Prelude.{◌≡◌, ◌<◌, ◌++◌, codes, decimal};
+ghost use Rattle.std.specs.Prelude.{◌<◌, ◌++◌, codes, decimal};
 ghost use Rattle.carrier_io.specs.Known.{Writes};
 ghost use Rattle.carrier_model.specs.Values.{number_widths, width_in};
 ghost use Rattle.text_model.specs.ValueTexts.{number_text, truth_text, signed_text};

@@ -1,9 +1,7 @@
 //! Properties and recipients.
-ghost use Rattle.std.specs.Prelude.{◌≡◌, ◌≤◌, ◌+◌, ◌++◌, codes};
+ghost use Rattle.std.specs.Prelude.{◌≤◌, ◌+◌, ◌++◌, codes};
 ghost use Rattle.carrier_io.specs.Known.{Writes};
 ghost use Rattle.text_model.specs.TreeTexts.{line, counted, prop_text, prop_lines, recipient_lines};
-ghost use Rattle.carrier_model.specs.KindNames.{kind_name};
-ghost use Rattle.prop_values.specs.Kinds.{kind_number};
 
 use crate::lines::{write_counted_line, write_indent};
 use crate::values::write_value;

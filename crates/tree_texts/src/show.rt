@@ -1,8 +1,8 @@
 //! Every message with every property.
-ghost use Rattle.std.specs.Prelude.{◌≡◌, ◌≤◌, ◌+◌, ◌*◌, ◌++◌, codes};
+ghost use Rattle.std.specs.Prelude.{◌≤◌, ◌+◌, ◌*◌, ◌++◌, codes};
 ghost use Rattle.carrier_io.specs.Known.{Writes};
 ghost use Rattle.carrier_model.specs.Tree as plain;
-ghost use Rattle.text_model.specs.TreeTexts.{line, counted, prop_lines, recipient_lines, message_lines, body_lines, show_text};
+ghost use Rattle.text_model.specs.TreeTexts.{line, prop_lines, recipient_lines, message_lines, show_text};
 ghost use Rattle.msg_tree.specs.Meaning.{tree_of, attached_of};
 ghost use Rattle.msg_tree.specs.Whole.{plain_of};
 ghost use Rattle.tree_texts.specs.Attachments.{attachment_text};

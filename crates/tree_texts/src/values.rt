@@ -1,5 +1,4 @@
 //! Values of every kind.
-ghost use Rattle.std.specs.Prelude.{◌≡◌};
 ghost use Rattle.carrier_io.specs.Known.{Writes};
 ghost use Rattle.carrier_model.specs.Values.{IsValue};
 ghost use Rattle.text_model.specs.ValueTexts.{value_text};
