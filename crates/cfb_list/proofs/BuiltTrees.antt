@@ -6,7 +6,7 @@ use Rattle.std.specs.Ordering.{is_lt}
 use Rattle.std.specs.declared.cmp.Ordering.{Ordering}
 use Rattle.std.specs.declared.cmp.Ordering.TheVariants.{Less, Equal, Greater}
 use Rattle.carrier_model.specs.FileTrees as trees
-use Rattle.carrier_model.specs.FileTrees.{FileTree, sibling_cmp, with_stream, with_storage, sorted, and_files}
+use Rattle.carrier_model.specs.FileTrees.{FileTree, sibling_cmp, with_stream, with_storage, sorted}
 use Rattle.carrier_model.specs.Sorted.{choose}
 use Rattle.cfb_list.specs.Listed.{Child, stream, storage, children_at, built, tree_at, trees_from, tree_of, IsChild, AreSound, IsSound}
 use Rattle.cfb_list.specs.Sorting.{placed, comes_before, siblings_in_order}

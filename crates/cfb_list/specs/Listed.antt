@@ -2,7 +2,7 @@
 use Rattle.std.specs.Prelude.{◌≡◌, ℕ, ◌+◌, ◌-◌, ◌<◌, ◌≤◌, List, [], ◌∷◌, ◌++◌, length, get_or, slice_set}
 use Rattle.std.specs.List.{AllByRecursion}
 use Rattle.carrier_model.specs.FileTrees as trees
-use Rattle.carrier_model.specs.FileTrees.{FileTree, sibling_cmp}
+use Rattle.carrier_model.specs.FileTrees.{FileTree}
 
 -- a stream; or a storage, which has a class of 16 bytes and a number
 pub data Child : Type 0 where

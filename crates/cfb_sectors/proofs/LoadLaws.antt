@@ -1,9 +1,9 @@
 -- The tables, from their parts.
-use Rattle.std.proofs.Common.{◌≡◌, ℕ, ◌+◌, ◌-◌, ◌<◌, ◌≤◌, List, [], ◌++◌, length, refl, sym, ◌∙◌, ap, subst, arith, Ok, Err, Result}
+use Rattle.std.proofs.Common.{◌≡◌, ℕ, ◌+◌, List, [], ◌++◌, refl, subst, Ok}
 use Rattle.carrier_model.specs.Chains.{chain_of}
 use Rattle.carrier_model.specs.Sectors.{word_offset, whole_count, table_words}
 use Rattle.carrier_model.specs.Tables.{Head, header_of, difat_of, difat_count, fat_sectors_of}
-use Rattle.carrier_model.specs.Loads.{Tables, Table, chain_bound, tables_of}
+use Rattle.carrier_model.specs.Loads.{Tables, chain_bound, tables_of}
 use Rattle.carrier_io.specs.declared.reasons.Stop.{Stop}
 use Rattle.carrier_io.specs.declared.reasons.Stop.TheVariants as stops
 use Rattle.carrier_io.specs.Reads.{Fails}

@@ -1,11 +1,11 @@
 -- Parts of a stream that begin anywhere.
-use Rattle.std.proofs.Common.{◌≡◌, ℕ, zero, suc, ◌+◌, ◌-◌, ◌*◌, ◌/◌, ◌%◌, ◌<◌, ◌≤◌, List, [], ◌∷◌, ◌++◌, length, get_or, take, drop, min, true, refl, sym, ◌∙◌, ap, arith, inl, inr, take-add}
+use Rattle.std.proofs.Common.{◌≡◌, ℕ, suc, ◌+◌, ◌-◌, ◌*◌, ◌/◌, ◌%◌, ◌<◌, ◌≤◌, List, ◌++◌, length, get_or, take, drop, min, true, sym, ◌∙◌, ap, arith, inl, inr, take-add}
 use Rattle.std.specs.Prelude.{IsTrue}
 use Rattle.std.proofs.lemmas.List.{ext_get_or, get_or-take, get_or-drop, length-take, length-drop, take_at, drop-drop, append_assoc, get_or_append_left}
 use Rattle.std.proofs.Math.Seq.{drop-append-add, take-take}
 use Rattle.cfb_sectors.specs.Seen.{number_in}
 use Rattle.carrier_model.specs.Streams.{is_piece, place_in, places_of, content, lie_below}
-use Rattle.carrier_model.proofs.PlaceLaws.{piece_cases, place_in-at, places-to}
+use Rattle.carrier_model.proofs.PlaceLaws.{piece_cases, places-to}
 use Rattle.carrier_model.proofs.ViewLaws.{byte_at, length-content, same_item}
 
 -- up to the end of a piece the places follow one another

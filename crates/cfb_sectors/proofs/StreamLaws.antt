@@ -1,5 +1,5 @@
 -- The chain of a stream, from its parts.
-use Rattle.std.proofs.Common.{◌≡◌, ℕ, ◌+◌, ◌-◌, ◌<◌, ◌≤◌, List, length, Bool, true, false, refl, sym, ◌∙◌, ap, Ok, Err}
+use Rattle.std.proofs.Common.{◌≡◌, ℕ, ◌+◌, List, length, true, false, refl, Ok, Err}
 use Rattle.std.specs.Int.{div_ceil}
 use Rattle.carrier_model.specs.Chains.{chain_of}
 use Rattle.carrier_model.specs.Loads.{Table, Mini, chain_bound, mini_bound, long_chain_of, short_chain_of}

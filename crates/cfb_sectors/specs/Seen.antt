@@ -1,7 +1,7 @@
 -- The bytes of a view, and where they lie.
 use Rattle.std.specs.Prelude.{ℕ, zero, suc, ◌+◌, ◌-◌, ◌*◌, List, get_or, take, drop, min}
 use Rattle.std.specs.Int.{div_ceil}
-use Rattle.carrier_model.specs.Streams.{Stream, stream_at, places_of, content}
+use Rattle.carrier_model.specs.Streams.{Stream, places_of, content}
 use Rattle.cfb_sectors.specs.declared.view.StreamView.{StreamView}
 
 -- where each byte lies in the input

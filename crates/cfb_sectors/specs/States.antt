@@ -1,11 +1,11 @@
 -- A loaded file, with marks of the sectors that are taken.
-use Rattle.std.specs.Prelude.{◌≡◌, ℕ, ◌*◌, ◌+◌, ◌<◌, ◌≤◌, List, Bool, true, length, All, IsTrue, if◌then◌else◌, Result, Ok}
+use Rattle.std.specs.Prelude.{◌≡◌, ℕ, ◌*◌, ◌<◌, ◌≤◌, List, Bool, true, length, All, if◌then◌else◌, Result}
 use Rattle.std.specs.Int.{div_ceil}
 use Rattle.carrier_model.specs.Trail.{Fault}
 use Rattle.carrier_model.specs.Outcomes.{mapped}
 use Rattle.carrier_model.specs.Entries.{Entry, entry_at, entry_count, entry_place}
 use Rattle.carrier_model.specs.Loads.{Loaded, mini_bound, is_long, claim_of, stream_of}
-use Rattle.carrier_model.specs.Sectors.{is_size, sector_count, whole_count}
+use Rattle.carrier_model.specs.Sectors.{sector_count, whole_count}
 use Rattle.carrier_model.specs.Streams.{Stream, places_of, starts_of, lie_below}
 
 pub record State : Type 0 where

@@ -1,5 +1,4 @@
 -- The Rust values as plain values.
-use Rattle.std.specs.Prelude.{ℕ, List}
 use Rattle.cfb_sectors.specs.declared.header.Header.{Header}
 use Rattle.cfb_sectors.specs.declared.fat.Fat.{Fat}
 use Rattle.cfb_sectors.specs.declared.loading.Tables as rust

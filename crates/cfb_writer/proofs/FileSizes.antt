@@ -4,7 +4,7 @@ use Rattle.std.specs.Prelude.{Err, Ok}
 use Rattle.std.specs.List.{AllByRecursion}
 use Rattle.carrier_model.specs.Bytes.{MOST_BYTES}
 use Rattle.carrier_model.specs.FileTrees as trees
-use Rattle.carrier_model.specs.FileTrees.{FileTree, entries_in, sorted, NO_CLASS}
+use Rattle.carrier_model.specs.FileTrees.{FileTree, entries_in, sorted}
 use Rattle.carrier_model.specs.Layout.{Plan, Slot, file_bytes, links_of_siblings, plan_of, sibling_numbers, slots_from}
 use Rattle.carrier_io.specs.declared.failures.PlanEnd.TheVariants.{TooLarge}
 use Rattle.carrier_model.specs.Totals.{capped}

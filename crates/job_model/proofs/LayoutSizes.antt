@@ -5,7 +5,7 @@ use Rattle.std.specs.declared.cmp.Ordering.{Ordering}
 use Rattle.std.specs.declared.cmp.Ordering.TheVariants.{Less, Equal, Greater}
 use Rattle.std.proofs.lemmas.Bool.{cases_Bool, cond-true, cond-false, leb-true}
 use Rattle.carrier_model.specs.FileTrees as trees
-use Rattle.carrier_model.specs.FileTrees.{FileTree, no_file, and_files, streams_from, sibling_cmp, with_stream, with_storage, sorted, entries_in}
+use Rattle.carrier_model.specs.FileTrees.{FileTree, no_file, and_files, sibling_cmp, with_stream, with_storage, sorted, entries_in}
 use Rattle.carrier_model.specs.Layout.{Slot, Sizes, is_short, is_long, pieces, all_pieces, short_streams, long_streams, sizes_of, rest_of, suffices, first_that_suffices, fat_count, slots_from, slots_of, layout, links_of_siblings, sibling_numbers}
 use Rattle.carrier_model.specs.LayoutHolds.{MayBeWrittenAt, StreamsFit}
 use Rattle.carrier_model.specs.Sorted.{choose}

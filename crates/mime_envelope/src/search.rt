@@ -12,7 +12,7 @@ use crate::parameters::{boundary_of, is_multipart, is_tnef};
 use crate::part::Part;
 use crate::parts::{has_closing, part_size};
 use crate::text::split_line;
-use carrier_io::{Fault, NoMemory, Reason, Stop};
+use carrier_io::{Fault, Reason, Stop};
 use std::alloc::Global;
 
 /// Whether a boundary has 1 to 70 bytes and doesn't end in a space.

@@ -9,7 +9,7 @@ use Rattle.std.proofs.lemmas.Bool.{eq-eqb}
 use Rattle.std.proofs.lemmas.List.{append-nil, map-append}
 use Rattle.std.proofs.lemmas.List.Elements.{filter_map-append}
 use Rattle.carrier_model.specs.FileTrees as trees
-use Rattle.carrier_model.specs.FileTrees.{FileTree, and_files, streams_from, NO_CLASS}
+use Rattle.carrier_model.specs.FileTrees.{FileTree, and_files, streams_from}
 use Rattle.carrier_model.specs.Files.{Children, folded}
 use Rattle.carrier_model.specs.KeyTexts.{upper, hex_digits}
 use Rattle.carrier_model.specs.Lookups.{same_name, stream_named}

@@ -6,7 +6,7 @@ use Rattle.std.specs.Ordering.{ordering_reverse}
 use Rattle.std.specs.declared.cmp.Ordering.TheVariants.{Less, Equal, Greater}
 use Rattle.std.proofs.lemmas.Bool.{cases_lt}
 use Rattle.carrier_model.specs.FileTrees as plain
-use Rattle.carrier_model.specs.FileTrees.{FileTree, Member, Named, bytes_at, store_at, file_names, files_from, files_listed, with_member, in_front, sibling_cmp}
+use Rattle.carrier_model.specs.FileTrees.{FileTree, Member, bytes_at, store_at, file_names, files_from, files_listed, with_member, in_front, sibling_cmp}
 use Rattle.carrier_model.specs.Places.{IsGap, IsPlace}
 use Rattle.carrier_model.specs.Sorted.{IsStrictlySorted}
 use Rattle.carrier_model.specs.Stores.{AreInOrder}

@@ -7,8 +7,8 @@ use Rattle.carrier_model.specs.Reasons.{BAD_INTERFACE, TOO_DEEP}
 use Rattle.carrier_model.specs.Stores.{store_file, IsStoreFile}
 use Rattle.tnef_model.specs.TnefMessage as plain
 use Rattle.carrier_model.specs.Meanings as meanings
-use Rattle.carrier_model.specs.Meanings.{Meaning, Held, Passed, held_store}
-use Rattle.tnef_model.specs.TnefMessage.{has_id, by_interface, object_by, IID_MESSAGE, IID_STORAGE, message_within}
+use Rattle.carrier_model.specs.Meanings.{Meaning, Held, held_store}
+use Rattle.tnef_model.specs.TnefMessage.{has_id, by_interface, IID_MESSAGE, IID_STORAGE, message_within}
 use Rattle.carrier_model.specs.Trail.{Fault}
 use Rattle.tnef_message.specs.Contents.{inner_at, objects_at}
 

@@ -10,7 +10,6 @@ ghost use Rattle.prop_values.specs.Shapes.{HasShape, IsWidth};
 ghost use Rattle.tnef_props.specs.Meaning.{seen};
 
 use crate::fields::{one, padded, word};
-use crate::names::guid;
 use crate::rest::Rest;
 use crate::texts::text;
 use carrier_io::{Numbers, Stop, u16_at, u32_at, u64_at};

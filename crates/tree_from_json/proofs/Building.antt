@@ -3,7 +3,7 @@ use Rattle.std.proofs.Common.{◌≡◌, ◌∙◌, refl, sym, ap, ℕ, zero, su
 use Rattle.std.specs.Prelude.{slice_get, Some}
 use Rattle.std.proofs.lemmas.Bool.Decides.{nat_tests}
 use Rattle.carrier_model.specs.FileTrees as trees
-use Rattle.carrier_model.specs.FileTrees.{FileTree, Named, bytes_at, store_at, files_listed, in_order_below, sorted, with_stream, with_storage}
+use Rattle.carrier_model.specs.FileTrees.{FileTree, Named, store_at, files_listed, in_order_below, sorted, with_stream, with_storage}
 use Rattle.json_model.specs.StoreForms.{Entry, storage_entry, stream_entry, path_of, last_name, is_below, front_below, behind_below, files_within}
 use Rattle.msg_tree.specs.Gathering.{in_order}
 use Rattle.msg_tree.specs.StoreMeaning.{store_of, member_of as kept_of, member_step, entry_step, store_step}

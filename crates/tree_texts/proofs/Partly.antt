@@ -3,7 +3,7 @@ use Rattle.std.proofs.Common.{◌≡◌, ℕ, List, [], ◌++◌, Option, Result
 use Rattle.std.specs.Result.{IsErr}
 use Rattle.std.proofs.lemmas.List.{append-nil}
 use Rattle.carrier_io.specs.Known.{Writes}
-use Rattle.carrier_io.proofs.Known.{Did, did, did_nothing, did_then, exits, ends, done}
+use Rattle.carrier_io.proofs.Known.{Did, did, did_nothing, did_then, exits, done}
 
 -- a front of the text stands there, and the rest is to come
 pub record Partly (a b : Option (List ℕ)) (n m : ℕ) (all rest : List ℕ) : Type 0 where

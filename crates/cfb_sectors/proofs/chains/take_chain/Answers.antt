@@ -1,4 +1,4 @@
-use Rattle.std.proofs.Common.{◌≡◌, ◌≢◌, ℕ, ◌+◌, ◌<◌, ◌≤◌, List, [], ◌∷◌, ◌++◌, length, get_or, Bool, true, false, arith, rules}
+use Rattle.std.proofs.Common.{true, false, arith}
 use Rattle.carrier_model.proofs.ChainLaws.{member-after, Marks-swap}
 use Rattle.carrier_model.specs.Marks.{mark_all}
 use Rattle.carrier_model.proofs.MarkLaws.{unmarked-le}

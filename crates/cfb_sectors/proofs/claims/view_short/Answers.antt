@@ -1,6 +1,4 @@
-use Rattle.std.proofs.Common.{rules, ◌≡◌, ℕ, ◌+◌, ◌*◌, ◌≤◌, ◌<◌, List, true, length, vec_len, map, refl, sym, ◌∙◌, ap, arith, subst}
-use Rattle.std.specs.Prelude.{All}
-use Rattle.std.proofs.lemmas.Grind.{common_steps}
+use Rattle.std.proofs.Common.{◌≡◌, true, length, map, refl, sym, ◌∙◌, arith, subst}
 use Rattle.carrier_model.specs.Streams.{place_in, places_of, starts_of, mini_offsets, lie_below}
 use Rattle.carrier_model.proofs.EntryLaws.{same_product}
 use Rattle.carrier_model.proofs.MiniLaws.{offsets_inside, mini_within}

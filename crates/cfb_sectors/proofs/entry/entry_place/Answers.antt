@@ -1,8 +1,8 @@
-use Rattle.std.proofs.Common.{rules, ◌≡◌, ℕ, ◌+◌, ◌*◌, ◌/◌, ◌%◌, ◌-◌, ◌≤◌, ◌<◌, length, List, get_or, refl, sym, ap, ◌∙◌, arith, subst, vec_len}
+use Rattle.std.proofs.Common.{◌*◌, ◌/◌, ◌-◌, ◌<◌, length, get_or, arith}
 use Rattle.std.proofs.lemmas.Grind.{common_steps}
 use Rattle.std.proofs.lemmas.List.Elements.{All-get_or}
-use Rattle.carrier_model.specs.Sectors.{sector_start, whole_count}
-use Rattle.carrier_model.proofs.EntryLaws.{entry_sector, entry_place-is, entry_inside, few_entries}
+use Rattle.carrier_model.specs.Sectors.{whole_count}
+use Rattle.carrier_model.proofs.EntryLaws.{entry_sector, entry_place-is, entry_inside}
 use Rattle.cfb_sectors.proofs.entry.entry_place.Goals as goal
 
 pub bounds-directory-at : goal.bounds-directory-at

@@ -1,4 +1,4 @@
-use Rattle.std.proofs.Common.{◌≡◌, ℕ, ◌+◌, ◌≤◌, ◌<◌, take, drop, length, ◌-◌}
+use Rattle.std.proofs.Common.{◌≡◌, take, drop, length, ◌-◌}
 use Rattle.cfb_sectors.proofs.entry.read_class.Given as goal
 
 abbrev pub invariant-loop-i : goal.invariant-loop-i

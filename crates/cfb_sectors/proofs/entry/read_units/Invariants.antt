@@ -1,4 +1,4 @@
-use Rattle.std.proofs.Common.{◌≡◌, ℕ, ◌+◌, ◌*◌, ◌≤◌, ◌<◌, List, take, map, length, ◌-◌}
+use Rattle.std.proofs.Common.{◌≡◌, ◌+◌, ◌*◌, take, map, length, ◌-◌}
 use Rattle.std.specs.List.{range_with_len}
 use Rattle.carrier_model.specs.Sectors.{u16_of}
 use Rattle.cfb_sectors.proofs.entry.read_units.Given as goal

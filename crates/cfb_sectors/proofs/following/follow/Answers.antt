@@ -1,9 +1,9 @@
-use Rattle.std.proofs.Common.{◌≡◌, ℕ, ◌+◌, ◌<◌, ◌≤◌, length, get_or, set, Bool, true, false, List, [], ◌∷◌, ◌++◌, arith, rules, refl, sym, ◌∙◌, ap}
+use Rattle.std.proofs.Common.{◌≡◌, ◌+◌, ◌<◌, length, get_or, true, false, [], ◌∷◌, ◌++◌, arith, refl, sym, ◌∙◌, ap}
 use Rattle.std.proofs.lemmas.Grind.{common_steps}
 use Rattle.carrier_model.specs.Marks.{is_free}
 use Rattle.std.proofs.lemmas.List.Elements.{All-nil, All-push}
 use Rattle.std.proofs.lemmas.List.{length-set}
-use Rattle.carrier_model.proofs.MarkLaws.{mark_all-push, length-mark_all, Leads-push, AreFree-push, unmarked-set, is_free-true}
+use Rattle.carrier_model.proofs.MarkLaws.{mark_all-push, Leads-push, AreFree-push, unmarked-set, is_free-true}
 use Rattle.cfb_sectors.proofs.following.follow.Goals as goal
 
 pub loop-sector-init : goal.loop-sector-init

@@ -1,4 +1,4 @@
-use Rattle.std.proofs.Common.{◌-◌, ◌≡◌, ℕ, ◌+◌, ◌<◌, ◌≤◌, vec_len, length}
+use Rattle.std.proofs.Common.{◌-◌, ◌≡◌, ◌+◌, ◌<◌, ◌≤◌, vec_len, length}
 use Rattle.std.specs.Prelude.{All}
 use Rattle.carrier_model.specs.Chains.{Leads}
 use Rattle.carrier_model.specs.Marks.{mark_all, unmarked, AreFree}

@@ -1,4 +1,4 @@
-use Rattle.std.proofs.Common.{◌≡◌, ℕ, ◌<◌, length, get_or, false, arith, sym, ◌∙◌}
+use Rattle.std.proofs.Common.{false, arith, sym, ◌∙◌}
 use Rattle.carrier_model.proofs.MarkLaws.{unmarked-set}
 use Rattle.cfb_sectors.proofs.lists.take_sector.Goals as goal
 

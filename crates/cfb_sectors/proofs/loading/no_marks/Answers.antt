@@ -1,5 +1,3 @@
-use Rattle.std.proofs.Common.{◌≡◌, ℕ, ◌∙◌, ap, arith, false, replicate}
-use Rattle.carrier_model.specs.Marks.{unmarked}
 use Rattle.carrier_model.proofs.MarkLaws.{unmarked-replicate}
 use Rattle.cfb_sectors.proofs.loading.no_marks.Goals as goal
 

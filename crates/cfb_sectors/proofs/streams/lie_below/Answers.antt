@@ -1,4 +1,4 @@
-use Rattle.std.proofs.Common.{◌≡◌, ℕ, ◌<◌, ◌≤◌, false, true, arith, sym, length, min, ◌*◌}
+use Rattle.std.proofs.Common.{◌≡◌, true, arith, sym, length, min, ◌*◌}
 use Rattle.std.proofs.lemmas.Bool.{false_from_ne_true}
 use Rattle.carrier_model.proofs.PlaceLaws.{past_end, places-to, places-from}
 use Rattle.cfb_sectors.proofs.streams.lie_below.Goals as goal

@@ -1,4 +1,4 @@
-use Rattle.std.proofs.Common.{◌-◌, ◌≡◌, ℕ, ◌+◌, ◌*◌, ◌<◌, ◌≤◌, min}
+use Rattle.std.proofs.Common.{◌-◌, ◌≡◌, ℕ, ◌*◌, ◌<◌, min}
 use Rattle.carrier_model.specs.Streams.{place_in}
 use Rattle.cfb_sectors.proofs.streams.lie_below.Given as goal
 

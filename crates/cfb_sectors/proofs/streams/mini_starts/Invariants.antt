@@ -1,4 +1,4 @@
-use Rattle.std.proofs.Common.{◌≡◌, ℕ, ◌+◌, ◌*◌, ◌≤◌, ◌<◌, List, take, map, vec_len, ◌-◌}
+use Rattle.std.proofs.Common.{◌≡◌, take, map, vec_len, ◌-◌}
 use Rattle.carrier_model.specs.Streams.{place_in, starts_of}
 use Rattle.cfb_sectors.proofs.streams.mini_starts.Given as goal
 

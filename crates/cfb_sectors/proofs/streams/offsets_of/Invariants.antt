@@ -1,4 +1,4 @@
-use Rattle.std.proofs.Common.{◌≡◌, ℕ, ◌+◌, ◌*◌, ◌≤◌, ◌<◌, List, take, map, vec_len, ◌-◌}
+use Rattle.std.proofs.Common.{◌≡◌, ◌*◌, take, map, vec_len, ◌-◌}
 use Rattle.cfb_sectors.proofs.streams.offsets_of.Given as goal
 
 abbrev pub invariant-loop-sector : goal.invariant-loop-sector

@@ -1,11 +1,9 @@
-use Rattle.std.proofs.Common.{rules, ◌≡◌, ℕ, ◌+◌, ◌*◌, ◌≤◌, ◌<◌, ◌++◌, List, true, false, length, vec_len, sym, ◌∙◌, ap, refl, arith, Ok, min, Bool}
+use Rattle.std.proofs.Common.{◌≡◌, true, false, length, sym, ◌∙◌, ap, arith}
 use Rattle.std.proofs.lemmas.Grind.{common_steps}
 use Rattle.std.specs.Int.{div_ceil}
-use Rattle.carrier_model.specs.Chains.{chain_of}
-use Rattle.carrier_model.specs.Loads.{mini_bound, chain_bound}
-use Rattle.carrier_model.specs.Streams.{places_of, lie_below, starts_of, mini_offsets}
-use Rattle.cfb_sectors.specs.Views.{table, mini_seen}
-use Rattle.cfb_sectors.proofs.StreamLaws.{long_past, long_ok, short_past, short_ok}
+use Rattle.carrier_model.specs.Streams.{places_of, lie_below, starts_of}
+use Rattle.cfb_sectors.specs.Views.{table}
+use Rattle.cfb_sectors.proofs.StreamLaws.{long_past, long_ok}
 use Rattle.cfb_sectors.proofs.streams.take_long_chain.Goals as goal
 
 pub returns-then-not-lie_below-clause-answer : goal.returns-then-not-lie_below-clause-answer

@@ -1,4 +1,4 @@
-use Rattle.std.proofs.Common.{◌-◌, ◌≡◌, ℕ, ◌+◌, ◌*◌, ◌<◌, ◌≤◌, ◌++◌, List, map, vec_len}
+use Rattle.std.proofs.Common.{◌-◌, ◌≡◌, ◌+◌, ◌*◌, ◌++◌, map, vec_len}
 use Rattle.std.specs.List.{range_with_len}
 use Rattle.carrier_model.specs.Sectors.{sector_start, u32_of}
 use Rattle.cfb_sectors.proofs.words.push_words.Given as goal

@@ -1,4 +1,4 @@
-use Rattle.std.proofs.Common.{◌-◌, ◌≡◌, ℕ, ◌+◌, ◌*◌, ◌/◌, ◌<◌, ◌≤◌, ◌++◌, List, take, vec_len}
+use Rattle.std.proofs.Common.{◌-◌, ◌≡◌, ◌*◌, ◌/◌, take, vec_len}
 use Rattle.carrier_model.specs.Sectors.{table_words}
 use Rattle.cfb_sectors.proofs.words.read_words.Given as goal
 

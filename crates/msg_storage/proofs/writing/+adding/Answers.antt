@@ -1,9 +1,8 @@
 use Rattle.std.proofs.Common.{◌≡◌, None, ap, arith, false, length, subst, sym, take, take_all, ◌∙◌}
 use Rattle.std.specs.Prelude.{OnOk}
-use Rattle.std.specs.Str.{IsAscii}
 use Rattle.carrier_model.specs.FileTrees.{FileTree, and_files, NO_CLASS}
 use Rattle.carrier_model.specs.Tree as plain
-use Rattle.carrier_model.specs.Tree.{Attached, attachments_from, depth_of_body}
+use Rattle.carrier_model.specs.Tree.{attachments_from, depth_of_body}
 use Rattle.carrier_model.proofs.Trees.{depth_at_le}
 use Rattle.msg_model.specs.ReadBack.{BodyHasFewParts}
 use Rattle.msg_model.specs.StreamNames.{value_name}

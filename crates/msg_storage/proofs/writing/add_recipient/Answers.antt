@@ -1,6 +1,6 @@
-use Rattle.std.proofs.Common.{◌≡◌, ◌∙◌, ℕ, List, None, ap, subst, sym}
+use Rattle.std.proofs.Common.{◌≡◌, ℕ, List, None, ap, subst}
 use Rattle.std.specs.Prelude.{replicate}
-use Rattle.carrier_model.specs.FileTrees.{FileTree, storage, no_file, NO_CLASS}
+use Rattle.carrier_model.specs.FileTrees.{FileTree, storage, NO_CLASS}
 use Rattle.msg_model.specs.StreamNames.{RECIPIENT_NAME, numbered_name}
 use Rattle.msg_model.specs.WrittenMsg.{list_files}
 use Rattle.msg_model.proofs.WrittenMessages.{among}

@@ -1,7 +1,7 @@
-use Rattle.std.proofs.Common.{◌≡◌, [], ◌∷◌, ◌++◌, length, ap, ◌∙◌}
+use Rattle.std.proofs.Common.{◌++◌, length, ap, ◌∙◌}
 use Rattle.std.specs.Prelude.{codes}
 use Rattle.carrier_io.proofs.Known.{andthen, failing}
-use Rattle.carrier_model.specs.Totals.{capped, all_messages, all_recipients, all_attachments, all_properties}
+use Rattle.carrier_model.specs.Totals.{capped, all_recipients, all_attachments, all_properties}
 use Rattle.carrier_model.specs.Tree.{depth, names_of}
 use Rattle.text_model.specs.TreeTexts.{line, counted}
 use Rattle.msg_tree.specs.Whole.{plain_of}

@@ -1,4 +1,4 @@
-use Rattle.std.proofs.Common.{◌≡◌, ◌-◌, [], get_or, ap, subst, sym, ◌∙◌}
+use Rattle.std.proofs.Common.{◌-◌, [], get_or, ap, subst, sym, ◌∙◌}
 use Rattle.carrier_model.specs.KeyTexts.{guid_text}
 use Rattle.carrier_model.specs.Values.{IsValue}
 use Rattle.text_model.specs.ValueTexts.{bytes_text, number_text}

@@ -1,4 +1,4 @@
-use Rattle.std.proofs.Common.{[], ◌∷◌, ◌++◌, append_assoc}
+use Rattle.std.proofs.Common.{[], ◌∷◌, append_assoc}
 use Rattle.std.specs.Prelude.{decimal}
 use Rattle.carrier_io.proofs.Known.{andthen, failing}
 use Rattle.tree_texts.proofs.Partly.{writes_as}

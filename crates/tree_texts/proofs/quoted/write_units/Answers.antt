@@ -1,4 +1,4 @@
-use Rattle.std.proofs.Common.{◌≡◌, ◌-◌, ◌+◌, [], None, ap, sym, ◌∙◌, arith}
+use Rattle.std.proofs.Common.{◌-◌, ◌+◌, None, ap, sym, ◌∙◌}
 use Rattle.tree_texts.proofs.Partly.{partly_as, partly_ends, partly_more, partly_start, partly_stops}
 use Rattle.tree_texts.proofs.Pieces.{next_piece_units, no_half, no_piece, pieces_from, text_behind, whole_blob}
 use Rattle.tree_texts.proofs.quoted.write_units.Goals as goal

@@ -1,13 +1,12 @@
-use Rattle.std.proofs.Common.{◌≡◌, ◌≤◌, ◌+◌, ◌++◌, [], length, rules, arith, ap, sym, ◌∙◌, refl}
+use Rattle.std.proofs.Common.{◌≤◌, ◌+◌, ◌++◌, length, arith, ap, sym, ◌∙◌}
 use Rattle.std.proofs.lemmas.List.{append-nil}
 use Rattle.carrier_model.specs.Tree as plain
 use Rattle.carrier_model.proofs.Trees.{depth_at_le}
 use Rattle.carrier_io.proofs.Known.{andthen, failing}
 use Rattle.text_model.specs.TreeTexts.{body_lines, prop_lines}
-use Rattle.msg_tree.specs.Meaning.{tree_of, list_of, attached_of}
+use Rattle.msg_tree.specs.Meaning.{list_of, attached_of}
 use Rattle.msg_tree.specs.declared.messages.Message.{out-Message}
-use Rattle.msg_tree.specs.declared.messages.Attachment.{out-Attachment}
-use Rattle.tree_texts.proofs.Bodies.{attached_props, depth_out, lines_from, message_body, message_whole, next_attachment, no_attachment, plain_body, store_body}
+use Rattle.tree_texts.proofs.Bodies.{attached_props, depth_out, message_body, message_whole, next_attachment, no_attachment, plain_body, store_body}
 use Rattle.tree_texts.proofs.Partly.{partly_ends, partly_more, partly_start, partly_stops, writes_as}
 use Rattle.tree_texts.proofs.show.+showing.Goals as goal
 

@@ -1,6 +1,6 @@
-use Rattle.std.proofs.Common.{◌++◌, append_assoc}
+use Rattle.std.proofs.Common.{◌++◌}
 use Rattle.std.specs.Prelude.{codes}
-use Rattle.carrier_model.specs.FileTrees.{byte_count, stream_count}
+use Rattle.carrier_model.specs.FileTrees.{byte_count}
 use Rattle.carrier_model.specs.Totals.{capped}
 use Rattle.carrier_io.proofs.Known.{andthen, failing}
 use Rattle.text_model.specs.TreeTexts.{counted}

@@ -1,5 +1,4 @@
-use Rattle.std.proofs.Common.{rules, ◌≡◌, ℕ, ◌+◌, ◌≤◌, ◌<◌, ◌++◌, List, [], length, Ok, refl, sym, ◌∙◌, ap, arith, subst, true}
-use Rattle.std.specs.Prelude.{IfOk}
+use Rattle.std.proofs.Common.{◌≡◌, ◌≤◌, ◌<◌, sym, ◌∙◌, ap, subst, true}
 use Rattle.carrier_model.specs.Entries.{Entry, entry_at}
 use Rattle.carrier_model.specs.Loads.{short_chain_of}
 use Rattle.carrier_io.specs.Reads.{Gives}

@@ -1,7 +1,6 @@
-use Rattle.std.proofs.Common.{rules, ◌≡◌, ℕ, ◌+◌, ◌*◌, ◌/◌, ◌%◌, ◌-◌, ◌≤◌, ◌<◌, length, List, get_or, refl, sym, ap, ◌∙◌, arith, subst, vec_len}
+use Rattle.std.proofs.Common.{◌-◌, length, arith, vec_len}
 use Rattle.std.proofs.lemmas.Grind.{common_steps}
-use Rattle.carrier_model.specs.Sectors.{sector_start, whole_count}
-use Rattle.carrier_model.proofs.EntryLaws.{entry_sector, entry_place-is, entry_inside, few_entries}
+use Rattle.carrier_model.proofs.EntryLaws.{few_entries}
 use Rattle.cfb_sectors.proofs.sectors.Sectors.entries.Goals as goal
 
 pub overflow_cast-result : goal.overflow_cast-result

@@ -1,7 +1,6 @@
-use Rattle.std.proofs.Common.{rules, ◌≡◌, ℕ, ◌+◌, ◌*◌, ◌/◌, ◌%◌, ◌-◌, ◌≤◌, ◌<◌, length, List, get_or, refl, sym, ap, ◌∙◌, arith, subst, vec_len}
+use Rattle.std.proofs.Common.{◌-◌, length, ◌∙◌, arith}
 use Rattle.std.proofs.lemmas.Grind.{common_steps}
-use Rattle.carrier_model.specs.Sectors.{sector_start, whole_count}
-use Rattle.carrier_model.proofs.EntryLaws.{entry_sector, entry_place-is, entry_inside, few_entries, same_product}
+use Rattle.carrier_model.proofs.EntryLaws.{same_product}
 use Rattle.cfb_sectors.proofs.sectors.Sectors.load.Goals as goal
 
 pub invariant_of-result : goal.invariant_of-result

@@ -1,6 +1,4 @@
-use Rattle.std.proofs.Common.{◌≡◌, ◌≤◌, ◌+◌, ◌-◌, length, take, drop, ap, sym, ◌∙◌, arith}
-use Rattle.std.proofs.lemmas.Grind.{common_steps}
-use Rattle.std.proofs.lemmas.List.{length-take, length-drop}
+use Rattle.std.proofs.Common.{◌+◌, ◌-◌, arith}
 use Rattle.carrier_model.proofs.ViewLaws.{length-content}
 use Rattle.cfb_sectors.specs.Seen.{bytes_of}
 use Rattle.cfb_sectors.proofs.PartLaws.{copied_more}

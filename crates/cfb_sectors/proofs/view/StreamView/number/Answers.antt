@@ -1,12 +1,8 @@
-use Rattle.std.proofs.Common.{rules, ◌≡◌, ◌≤◌, ◌*◌, true, length, vec_len, IsTrue, ◌<◌, ◌+◌, [], get_or, take, ℕ, ◌-◌, ◌/◌, ◌%◌, Bool, false, List, ◌∷◌, ◌++◌, suc, refl, sym, ◌∙◌, ap, arith, min}
-use Rattle.std.proofs.lemmas.Grind.{common_steps}
-use Rattle.std.specs.Int.{div_ceil}
-use Rattle.carrier_model.specs.Streams.{place_in, places_of, content}
-use Rattle.carrier_model.proofs.PlaceLaws.{piece_inside, places-to}
-use Rattle.carrier_model.proofs.ViewLaws.{length-content, piece_index, place_at, byte_at, begins_before, places-take, content-take, within-take, room, room-next, same_item, sector_there, some_of}
+use Rattle.std.proofs.Common.{◌≡◌, ◌<◌, ◌+◌, get_or, ◌-◌, suc, sym, ◌∙◌, arith, min}
+use Rattle.carrier_model.proofs.ViewLaws.{room-next}
 use Rattle.std.proofs.lemmas.List.{length-take}
 use Rattle.cfb_sectors.proofs.PartLaws.{copied_byte, number_more}
-use Rattle.cfb_sectors.specs.Seen.{bytes_of, places, number_in}
+use Rattle.cfb_sectors.specs.Seen.{bytes_of}
 use Rattle.cfb_sectors.proofs.view.StreamView.number.Goals as goal
 
 pub overflow_mul-value : goal.overflow_mul-value

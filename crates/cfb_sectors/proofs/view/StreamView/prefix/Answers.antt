@@ -1,10 +1,6 @@
-use Rattle.std.proofs.Common.{rules, ◌≡◌, ◌≤◌, ◌*◌, true, length, vec_len, IsTrue, ◌<◌, ◌+◌, [], get_or, take, ℕ, ◌-◌, ◌/◌, ◌%◌, Bool, false, List, ◌∷◌, ◌++◌, refl, sym, ◌∙◌, ap, arith, min, subst}
-use Rattle.std.proofs.lemmas.Grind.{common_steps}
-use Rattle.std.specs.Int.{div_ceil}
-use Rattle.carrier_model.specs.Streams.{place_in, places_of, content, lie_below}
-use Rattle.carrier_model.proofs.PlaceLaws.{piece_inside, places-to}
-use Rattle.carrier_model.proofs.ViewLaws.{length-content, piece_index, place_at, byte_at, begins_before, places-take, content-take, within-take, room, room-next, same_item, sector_there, some_of}
-use Rattle.cfb_sectors.specs.Seen.{bytes_of, places, number_in}
+use Rattle.std.proofs.Common.{◌≡◌, ◌≤◌, true, length, ◌-◌, sym, arith, subst}
+use Rattle.carrier_model.specs.Streams.{places_of, lie_below}
+use Rattle.carrier_model.proofs.ViewLaws.{length-content, places-take, content-take, within-take}
 use Rattle.cfb_sectors.proofs.view.StreamView.prefix.Goals as goal
 
 pub overflow_cast-result : goal.overflow_cast-result

@@ -1,8 +1,5 @@
-use Rattle.std.proofs.Common.{◌≡◌, ◌≤◌, ◌*◌, length, vec_len, ◌<◌, ◌+◌, ◌-◌, ◌/◌, ◌%◌, get_or, take, drop, ℕ, min, refl, sym, ◌∙◌, ap, arith}
-use Rattle.std.proofs.lemmas.List.{length-take, length-drop}
-use Rattle.carrier_model.specs.Streams.{place_in}
+use Rattle.std.proofs.Common.{◌≡◌, length, vec_len, ◌<◌, ◌+◌, ◌-◌, ◌/◌, ◌%◌, get_or, min, ◌∙◌, ap, arith}
 use Rattle.carrier_model.proofs.ViewLaws.{length-content, piece_index, same_item}
-use Rattle.cfb_sectors.specs.Seen.{bytes_of}
 use Rattle.cfb_sectors.proofs.PartLaws.{rest_inside, rest_part}
 use Rattle.cfb_sectors.proofs.view.StreamView.rest.Goals as goal
 
