@@ -8,7 +8,7 @@ use Rattle.prop_values.specs.declared.arrivals.SettleEnd.{SettleEnd}
 use Rattle.prop_values.specs.declared.arrivals.SettleEnd.TheVariants.{Duplicate, NoMemory}
 use Rattle.prop_values.specs.declared.sorting.Order.{Order}
 use Rattle.prop_values.specs.declared.sorting.Order.TheVariants.{Places, Double}
-use Rattle.prop_values.specs.Arranged.{ArePlaces}
+use Rattle.prop_values.specs.Arranged.{ArePlaces, AreInverse}
 use Rattle.carrier_model.specs.Sorted.{IsStrictlySorted, with_elements}
 use Rattle.carrier_model.specs.Values.{Prop, prop_cmp}
 
@@ -95,6 +95,7 @@ pub record AreOrdered (ps : List Prop) (places : List ℕ) : Type 0 where
   pub each : length places ≡ length ps
   pub sorted : (d : Prop) → map (λ k. slice_index_or ps k d) places ≡ with_elements prop_cmp [] ps
 
+-- the places, with the ranks of these among them; or the first double
 abbrev pub IsOrderOf : List Prop → Order → Type 0
-IsOrderOf ps (Places places) = AreOrdered ps places.items
+IsOrderOf ps (Places places ranks) = AreOrdered ps places.items × AreInverse places.items ranks.items
 IsOrderOf ps (Double k) = IsFirstDouble ps k

@@ -1,11 +1,11 @@
 //! A list that is put into another order in place.
-ghost use Rattle.std.specs.Prelude.{◌≡◌, length, map, slice_index_or, IfOk, OnOk};
+ghost use Rattle.std.specs.Prelude.{◌≡◌, length, map, slice_index_or, IfOk};
 ghost use Rattle.prop_values.specs.Arranged.{ArePlaces, AreInverse};
 
 use carrier_io::NoMemory;
 
 /// Where each of the places stands among them.
-fn inverse_of(places: &Vec<usize>) -> Result<Vec<usize>, NoMemory>
+pub fn inverse_of(places: &Vec<usize>) -> Result<Vec<usize>, NoMemory>
     requires { ArePlaces places.now.items }
     ensures { IfOk result (λ r. AreInverse places.now.items r.items) }
 {
@@ -18,7 +18,7 @@ fn inverse_of(places: &Vec<usize>) -> Result<Vec<usize>, NoMemory>
 
 /// Puts the elements into the order in which the places name them. `ranks` says which element goes where: the one at k
 /// goes to the place ranks[k].
-fn arrange_by<T>(list: &mut [T], mut places: Vec<usize>, mut ranks: Vec<usize>)
+pub fn arrange<T>(list: &mut [T], mut places: Vec<usize>, mut ranks: Vec<usize>)
     requires inverse { AreInverse places.items ranks.items }
     requires each { length places.items ≡ length list.old }
     ensures { (d : T) → list.new ≡ map (λ k. slice_index_or list.old k d) places.items }
@@ -31,15 +31,4 @@ fn arrange_by<T>(list: &mut [T], mut places: Vec<usize>, mut ranks: Vec<usize>)
         places[rank] = from;
         ranks[from] = rank;
     }
-}
-
-/// Puts the elements into the order in which the places name them.
-pub fn arrange<T>(list: &mut [T], places: Vec<usize>) -> Result<(), NoMemory>
-    requires places { ArePlaces places.items }
-    requires each { length places.items ≡ length list.old }
-    ensures { OnOk result ((d : T) → list.new ≡ map (λ k. slice_index_or list.old k d) places.items) }
-{
-    let ranks = inverse_of(&places)?;
-    arrange_by(list, places, ranks);
-    Ok(())
 }

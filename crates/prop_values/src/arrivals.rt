@@ -109,8 +109,8 @@ impl<B: Blob> Arrivals<B> {
                 let unmarked = list.len() - marks.len();
                 Err(SettleEnd::Duplicate(marks[place - unmarked]))
             }
-            Order::Places(places) => {
-                arrange(&mut list, places)?;
+            Order::Places { places, ranks } => {
+                arrange(&mut list, places, ranks);
                 Ok(Props::of_sorted(list))
             }
         }

@@ -5,6 +5,7 @@ ghost use Rattle.prop_names.specs.Meaning.{name_of};
 ghost use Rattle.prop_values.specs.Arrivals.{AreInPlace, IsSortedByPair, IsLeastDouble, IsOrderOf};
 ghost use Rattle.prop_values.specs.Ranks.{rank_in_set, IsRank, AreRanked, ranked_cmp};
 
+use crate::arranging::inverse_of;
 use crate::props::Prop;
 use carrier_io::{Blob, NoMemory};
 use prop_names::{Guid, Key, Name};
@@ -29,11 +30,14 @@ struct Spot<'a, B: Blob> {
     place: usize,
 }
 
-/// What the order of properties is: their places, the least property first, or the place of the first that has the key
-/// and kind of an earlier one.
+/// What the order of properties is: their places, the least property first, and where each place stands among these; or
+/// the place of the first that has the key and kind of an earlier one.
 #[derive(Drop)]
 pub enum Order {
-    Places(Vec<usize>),
+    Places {
+        places: Vec<usize>,
+        ranks: Vec<usize>,
+    },
     Double(usize),
 }
 
@@ -146,6 +150,12 @@ pub fn order_of<B: Blob>(alloc: Global, list: &[Prop<B>]) -> Result<Order, NoMem
     let spots = sorted_by_pair(spots_of(alloc, list)?);
     match first_double(&spots) {
         Some(place) => Ok(Order::Double(place)),
-        None => Ok(Order::Places(places_of(alloc, &spots)?)),
+        None => {
+            // The ranks are made while the spots stand: memory asked for behind a large block that was given back comes
+            // from where it is not given back to the system.
+            let places = places_of(alloc, &spots)?;
+            let ranks = inverse_of(&places)?;
+            Ok(Order::Places { places, ranks })
+        }
     }
 }

@@ -15,9 +15,18 @@ returns-in-Some g c =
     subst (λ ps. IsFirstDouble ps c.in-Some.place) c.in_ok-spots_of.ensures.props
     (first_is (λ s. s.prop.now) (λ s. s.place) c.in_ok-spots_of.field-0.items c.sorted_by_pair-spots.result.items c.in_ok-spots_of.ensures.places c.sorted_by_pair-spots.ensures.permutation c.sorted_by_pair-spots.ensures.sorted c.in-Some.place least)
 
+pub inverse_of-requires : goal.inverse_of-requires
+inverse_of-requires g c =
+    let least : IsLeastDouble c.sorted_by_pair-spots.result.items (λ s. s.prop.now) (λ s. s.place) (length c.sorted_by_pair-spots.result.items) None = rw c.deref.ensures.value at c.in-None.ensures in
+    let there : c.in_ok-places-in-None.places.items ≡ map (λ s. s.place) c.sorted_by_pair-spots.result.items = c.in_ok-places-in-None.ensures ∙ ap (map (λ s. s.place)) c.deref-in-None.ensures.value in
+    let spots : AreOrdered c.args.list.now (map (λ s. s.place) c.sorted_by_pair-spots.result.items) = subst (λ ps. AreOrdered ps (map (λ s. s.place) c.sorted_by_pair-spots.result.items)) c.in_ok-spots_of.ensures.props
+    (ordered (λ s. s.prop.now) (λ s. s.place) c.in_ok-spots_of.field-0.items c.sorted_by_pair-spots.result.items c.in_ok-spots_of.ensures.places c.sorted_by_pair-spots.ensures.permutation c.sorted_by_pair-spots.ensures.sorted least) in
+    rw there (spots.places_are)
+
 pub returns : goal.returns
 returns g c =
     let least : IsLeastDouble c.sorted_by_pair-spots.result.items (λ s. s.prop.now) (λ s. s.place) (length c.sorted_by_pair-spots.result.items) None = rw c.deref.ensures.value at c.in-None.ensures in
-    let there : c.in_ok-places_of-in-None.field-0.items ≡ map (λ s. s.place) c.sorted_by_pair-spots.result.items = c.in_ok-places_of-in-None.ensures ∙ ap (map (λ s. s.place)) c.deref-in-None.ensures.value in
-    rw there (subst (λ ps. AreOrdered ps (map (λ s. s.place) c.sorted_by_pair-spots.result.items)) c.in_ok-spots_of.ensures.props
-    (ordered (λ s. s.prop.now) (λ s. s.place) c.in_ok-spots_of.field-0.items c.sorted_by_pair-spots.result.items c.in_ok-spots_of.ensures.places c.sorted_by_pair-spots.ensures.permutation c.sorted_by_pair-spots.ensures.sorted least))
+    let there : c.in_ok-places-in-None.places.items ≡ map (λ s. s.place) c.sorted_by_pair-spots.result.items = c.in_ok-places-in-None.ensures ∙ ap (map (λ s. s.place)) c.deref-in-None.ensures.value in
+    let spots : AreOrdered c.args.list.now (map (λ s. s.place) c.sorted_by_pair-spots.result.items) = subst (λ ps. AreOrdered ps (map (λ s. s.place) c.sorted_by_pair-spots.result.items)) c.in_ok-spots_of.ensures.props
+    (ordered (λ s. s.prop.now) (λ s. s.place) c.in_ok-spots_of.field-0.items c.sorted_by_pair-spots.result.items c.in_ok-spots_of.ensures.places c.sorted_by_pair-spots.ensures.permutation c.sorted_by_pair-spots.ensures.sorted least) in
+    (rw there spots, c.in_ok-ranks-in-None.ensures)

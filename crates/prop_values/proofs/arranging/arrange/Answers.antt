@@ -1,7 +1,7 @@
 use Rattle.std.proofs.Common.{◌≡◌, ◌∙◌, ◌<◌, length, get_or, arith}
 use Rattle.std.proofs.lemmas.List.{get_or_default}
 use Rattle.prop_values.proofs.Arranged.{underway_more, underway_all}
-use Rattle.prop_values.proofs.arranging.arrange_by.Goals as goal
+use Rattle.prop_values.proofs.arranging.arrange.Goals as goal
 
 pub loop-k-preserved : goal.loop-k-preserved
 loop-k-preserved g c =
