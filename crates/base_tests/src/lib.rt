@@ -4,6 +4,8 @@
 #[cfg(test)]
 mod devices;
 #[cfg(test)]
+mod halves;
+#[cfg(test)]
 mod names;
 #[cfg(test)]
 mod trees;

@@ -4,6 +4,7 @@ ghost use Rattle.carrier_model.specs.Keys.{IsName};
 ghost use Rattle.msg_tree.specs.Whole.{plain_of};
 ghost use Rattle.prop_names.specs.Meaning.{name_of};
 
+use crate::halves::Halves;
 use carrier_io::{Blob, NoMemory, PassedList, Units};
 use msg_tree::{
     Accepted, Attachment, Attachments, Body, Counts, Limit, Member, MemberEnd, Message, Recipients,
@@ -20,39 +21,6 @@ const NUMBER: Name = Name::Number {
     set: SET,
     number: 0x820D,
 };
-
-/// Bytes in two borrowed pieces.
-#[derive(Clone, Copy)]
-struct Halves<'a> {
-    first: &'a [u8],
-    second: &'a [u8],
-    ghost fits: { length first.now < 0x1000 },
-    ghost fits_second: { length second.now < 0x1000 },
-}
-
-impl<'a> Blob for Halves<'a> {
-    ghost use Rattle.std.specs.Prelude.{refl, ◌++◌, [], ◌∷◌, slice_index_or};
-
-    ghost bytes = { λ h. h.first.now ++ h.second.now };
-
-    ghost count = { λ _. 2 };
-
-    ghost part = { λ h k. slice_index_or (h.first.now ∷ h.second.now ∷ []) k [] };
-
-    ghost joins = { λ _. refl };
-
-    fn len(&self) -> usize {
-        self.first.len() + self.second.len()
-    }
-
-    fn pieces(&self) -> usize {
-        2
-    }
-
-    fn piece(&self, k: usize) -> &[u8] {
-        if k == 0 { self.first } else { self.second }
-    }
-}
 
 /// Bytes under an id.
 fn binary<B: Blob>(id: u16, bytes: B) -> Prop<B>

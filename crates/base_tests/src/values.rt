@@ -1,5 +1,6 @@
 ghost use Rattle.std.specs.Prelude.{◌<◌, ◌^◌, length};
 
+use crate::halves::Halves;
 use carrier_io::{Blob, same_bytes};
 use prop_names::{Guid, Key};
 use prop_values::compare::{same_prop, same_props};
@@ -11,39 +12,6 @@ use std::alloc::Global;
 use std::cmp::Ordering;
 use std::process::Abort;
 use std::test::*;
-
-/// Bytes in two borrowed pieces.
-#[derive(Clone, Copy)]
-struct Halves<'a> {
-    first: &'a [u8],
-    second: &'a [u8],
-    ghost fits: { length first.now < 0x1000 },
-    ghost fits_second: { length second.now < 0x1000 },
-}
-
-impl<'a> Blob for Halves<'a> {
-    ghost use Rattle.std.specs.Prelude.{refl, ◌++◌, [], ◌∷◌, slice_index_or};
-
-    ghost bytes = { λ h. h.first.now ++ h.second.now };
-
-    ghost count = { λ _. 2 };
-
-    ghost part = { λ h k. slice_index_or (h.first.now ∷ h.second.now ∷ []) k [] };
-
-    ghost joins = { λ _. refl };
-
-    fn len(&self) -> usize {
-        self.first.len() + self.second.len()
-    }
-
-    fn pieces(&self) -> usize {
-        2
-    }
-
-    fn piece(&self, k: usize) -> &[u8] {
-        if k == 0 { self.first } else { self.second }
-    }
-}
 
 fn integer(id: u16, bits: u64) -> Prop<Vec<u8>>
     requires id { id < 0x8000 }
