@@ -19,20 +19,16 @@ const OTHER: Guid = Guid([
 ]);
 
 fn text(alloc: Global, set: Guid, units: &[u16]) -> Result<Name, Fail> {
-    let mut list = Units::with_capacity(alloc, units.len())
-        .ok()
-        .ok_or("no memory")?;
+    let mut list = Units::with_capacity(alloc, units.len())?;
     for unit in units {
-        list.push(*unit).ok().ok_or("no memory")?;
+        list.push(*unit)?;
     }
-    Ok(Name::of_text(alloc, set, list).ok().ok_or("no memory")?)
+    Ok(Name::of_text(alloc, set, list)?)
 }
 
 fn printed(alloc: Global, key: &Key) -> Result<Vec<u8>, Fail> {
-    let mut sink = MemorySink::new(alloc, 200, Vec::new(alloc))
-        .ok()
-        .ok_or("no memory")?;
-    print_key(key, &mut sink).ok().ok_or("failed")?;
+    let mut sink = MemorySink::new(alloc, 200, Vec::new(alloc))?;
+    print_key(key, &mut sink)?;
     Ok(sink.bytes().to_vec(alloc)?)
 }
 
@@ -59,10 +55,8 @@ fn keys_in_print(rt: HostRuntime) -> Result<(), Fail> {
 #[test]
 fn numbers_in_print(rt: HostRuntime) -> Result<(), Fail> {
     let alloc = rt.alloc();
-    let mut sink = MemorySink::new(alloc, 20, Vec::new(alloc))
-        .ok()
-        .ok_or("no memory")?;
-    write_decimal(&mut sink, u64::MAX).ok().ok_or("failed")?;
+    let mut sink = MemorySink::new(alloc, 20, Vec::new(alloc))?;
+    write_decimal(&mut sink, u64::MAX)?;
     assert_eq!(rt; sink.bytes(), "18446744073709551615".as_bytes());
     assert_eq!(rt; upper_digits16(0x0123_4567_89ab_cdef), *b"0123456789ABCDEF");
     assert_eq!(rt; upper_digits2(0xc5), *b"C5");
@@ -77,12 +71,10 @@ fn digits_are_read(rt: HostRuntime) -> Result<(), Fail> {
     for wrong in [b"0e1d", b"0E1G", b"0E1/"] {
         assert_eq!(rt; number_of_four(wrong), None);
     }
-    let bytes = bytes_of_digits(rt.alloc(), b"00c5ff")
-        .ok()
-        .ok_or("no memory")?;
+    let bytes = bytes_of_digits(rt.alloc(), b"00c5ff")?;
     assert!(rt; bytes.ok_or("no digits")?.as_slice() == [0, 0xc5, 0xff].as_slice());
     for wrong in [b"00C5", b"00cg", b"00c:"] {
-        let bytes = bytes_of_digits(rt.alloc(), wrong).ok().ok_or("no memory")?;
+        let bytes = bytes_of_digits(rt.alloc(), wrong)?;
         assert!(rt; bytes.is_none());
     }
     let set = guid_of_digits(b"0220060000000000c000000000000046");
@@ -123,19 +115,17 @@ fn names_in_order(rt: HostRuntime) -> Result<(), Fail> {
         number: 0x820d,
     };
     let mut units = Units::new(rt.alloc());
-    units.push(0x41).ok().ok_or("no memory")?;
-    let word = Name::of_text(rt.alloc(), APPOINTMENT, units)
-        .ok()
-        .ok_or("no memory")?;
+    units.push(0x41)?;
+    let word = Name::of_text(rt.alloc(), APPOINTMENT, units)?;
     assert_eq!(rt; number.order(&word), Ordering::Less);
     let mut set = NameSet::new(rt.alloc());
-    set.insert(&word).ok().ok_or("no memory")?;
-    set.insert(&number).ok().ok_or("no memory")?;
-    set.insert(&word).ok().ok_or("no memory")?;
+    set.insert(&word)?;
+    set.insert(&number)?;
+    set.insert(&word)?;
     assert_eq!(rt; set.len(), 2);
     assert_eq!(rt; set.position(&number), Some(0));
     assert_eq!(rt; set.position(&word), Some(1));
-    let copy = word.copy(rt.alloc()).ok().ok_or("no memory")?;
+    let copy = word.copy(rt.alloc())?;
     assert_eq!(rt; Key::Named(copy).order(&Key::Named(word)), Ordering::Equal);
     Ok(())
 }
@@ -150,9 +140,9 @@ fn a_set_of_some_names(rt: HostRuntime) -> Result<(), Fail> {
         set: APPOINTMENT,
         number: 0x820e,
     };
-    let again = high.copy(rt.alloc()).ok().ok_or("no memory")?;
-    let first = high.copy(rt.alloc()).ok().ok_or("no memory")?;
-    let second = low.copy(rt.alloc()).ok().ok_or("no memory")?;
+    let again = high.copy(rt.alloc())?;
+    let first = high.copy(rt.alloc())?;
+    let second = low.copy(rt.alloc())?;
     let names = vec![in rt.alloc(); first, second, again]?;
     let set = NameSet::of(rt.alloc(), names);
     assert_eq!(rt; set.len(), 2);

@@ -61,7 +61,7 @@ fn a_double_comes_back(rt: HostRuntime) -> Result<(), Fail> {
 #[test]
 fn guids(rt: HostRuntime) -> Result<(), Fail> {
     let mut guids = Guids::new(rt.alloc());
-    guids.push(Guid([1; 16])).ok().ok_or("no memory")?;
+    guids.push(Guid([1; 16]))?;
     assert_eq!(rt; guids.len(), 1);
     assert_eq!(rt; *guids.get(0), Guid([1; 16]));
     Ok(())
@@ -77,16 +77,16 @@ fn every_list<B: Blob>(
     requires { length (B.bytes value) < 0x4000_0000 }
 {
     let mut parts = Parts::new(alloc);
-    parts.push(part).ok().ok_or("no memory")?;
+    parts.push(part)?;
     assert_eq!(rt; parts.len(), 1);
     assert!(rt; same_bytes(parts.get(0), &[1u8, 2, 3, 4].as_slice()));
     assert_eq!(rt; parts.as_slice().len(), 1);
     let mut list = Props::new(alloc);
     list.insert_sorted(binary(0x1013, value))
         .ok()
-        .ok_or("no memory")?;
+        .ok_or("a value")?;
     assert_eq!(rt; list.find(&Key::Id(0x1013), Kind::Binary), Some(0));
-    let copy = list.copy_owned(alloc).ok().ok_or("no memory")?;
+    let copy = list.copy_owned(alloc)?;
     assert!(rt; same_props(&list, &copy));
     Ok(copy)
 }
@@ -129,9 +129,7 @@ fn kinds(rt: HostRuntime) -> Result<(), Fail> {
 
 #[test]
 fn texts_in_utf16(rt: HostRuntime) -> Result<(), Fail> {
-    let bytes = utf16_bytes(rt.alloc(), "A\u{20ac}\u{10000}")
-        .ok()
-        .ok_or("no memory")?;
+    let bytes = utf16_bytes(rt.alloc(), "A\u{20ac}\u{10000}")?;
     assert_eq!(rt;
         bytes.as_slice(),
         [0x41, 0, 0xac, 0x20, 0, 0xd8, 0, 0xdc].as_slice()
@@ -143,7 +141,7 @@ fn texts_in_utf16(rt: HostRuntime) -> Result<(), Fail> {
 fn before_the_object(rt: HostRuntime) -> Result<(), Fail> {
     let mut props = Props::new(rt.alloc());
     for id in [0x3705, 0x3700, 0x3701] {
-        props.insert_sorted(integer(id, 1)).ok().ok_or("refused")?;
+        props.insert_sorted(integer(id, 1)).ok().ok_or("a number")?;
     }
     assert_eq!(rt; props.count_before_object(), 2);
     Ok(())
@@ -153,9 +151,9 @@ fn before_the_object(rt: HostRuntime) -> Result<(), Fail> {
 fn arrivals_are_put_in_order(rt: HostRuntime) -> Result<(), Fail> {
     let mut list = Arrivals::new(rt.alloc());
     list.make_room(2);
-    list.push(integer(0x0026, 1), 4).ok().ok_or("no memory")?;
-    list.push(integer(0x0017, 2), 12).ok().ok_or("no memory")?;
-    let props = list.settle().ok().ok_or("no memory")?;
+    list.push(integer(0x0026, 1), 4)?;
+    list.push(integer(0x0017, 2), 12)?;
+    let props = list.settle()?;
     assert_eq!(rt; props.len(), 2);
     assert!(rt; same_prop(props.get(0), &integer(0x0017, 2)));
     Ok(())
@@ -165,7 +163,7 @@ fn arrivals_are_put_in_order(rt: HostRuntime) -> Result<(), Fail> {
 fn the_first_double_is_told(rt: HostRuntime) -> Result<(), Fail> {
     let mut list = Arrivals::new(rt.alloc());
     for (id, mark) in [(0x0017, 4), (0x0026, 12), (0x0017, 20), (0x0026, 28)] {
-        list.push(integer(id, 0), mark).ok().ok_or("no memory")?;
+        list.push(integer(id, 0), mark)?;
     }
     let end = list.settle().err();
     assert_eq!(rt; end, Some(SettleEnd::Duplicate(20)));

@@ -112,6 +112,7 @@ pub fn put(file: &mut [u8], at: usize, words: &[u32]) {
     }
 }
 
+/// Writes the words of each row at its offset.
 pub fn put_rows(file: &mut [u8], rows: &[Row<'_>]) {
     for (at, words) in rows {
         put(file, *at, words);
@@ -127,6 +128,7 @@ fn put_name(file: &mut [u8], at: usize, name: &str) {
     }
 }
 
+/// Writes the names of entries, each at its offset.
 pub fn put_names(directory: &mut [u8], names: &[(usize, &str)]) {
     for (at, name) in names {
         put_name(directory, *at, name);

@@ -15,17 +15,17 @@ fn a_store_is_written(rt: HostRuntime) -> Result<(), Fail> {
     inner
         .insert(&[98], Member::Stream(long))
         .ok()
-        .ok_or("a place")?;
+        .ok_or("a member")?;
     let mut store = Store::new(alloc, CLASS);
     store
         .insert(&[65, 66], Member::Storage(inner))
         .ok()
-        .ok_or("a place")?;
+        .ok_or("a member")?;
     let short = Vec::from_slice(alloc, b"abc")?;
     store
         .insert(&[97], Member::Stream(short))
         .ok()
-        .ok_or("a place")?;
+        .ok_or("a member")?;
     let plan = store_plan(alloc, &store)?;
     assert_eq!(rt; plan.size(), 7680);
     assert_eq!(rt; plan.sum(), 58811);

@@ -37,9 +37,9 @@ fn is_written<'t, B: Blob>(
     list: FileList<'t, B>,
     expected: &[u8],
 ) -> Result<[bool; 3], Fail> {
-    let plan = Plan::new(alloc, version, list).ok().ok_or("a plan")?;
+    let plan = Plan::new(alloc, version, list)?;
     let mut sink = MemorySink::new(alloc, 20_480, Vec::new(alloc))?;
-    plan.write(&mut sink).ok().ok_or("room")?;
+    plan.write(&mut sink)?;
     Ok([
         plan.size() == expected.len() as u64,
         sink.bytes() == expected,
@@ -204,13 +204,13 @@ fn plan_of<'t>(alloc: Global, value: &'t Counted) -> Result<Plan<'t, Counted>, F
         zeros: 0,
     };
     list.add_named_stream(0, &[120], content)?;
-    Ok(Plan::new(alloc, Version::Three, list).ok().ok_or("a plan")?)
+    Ok(Plan::new(alloc, Version::Three, list)?)
 }
 
 /// What a plan writes in large pieces.
 fn gathered<B: Blob>(alloc: Global, plan: &Plan<'_, B>) -> Result<Vec<u8>, Fail> {
     let mut sink = MemorySink::new(alloc, 8_062_464, Vec::new(alloc))?;
-    write_gathered(plan, &mut sink).ok().ok_or("room")?;
+    write_gathered(plan, &mut sink)?;
     Ok(sink.bytes().to_vec(alloc)?)
 }
 

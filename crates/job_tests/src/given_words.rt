@@ -46,7 +46,7 @@ fn words_are_read(rt: HostRuntime) -> Result<(), Fail> {
     assert_eq!(rt; words[1].as_str(), "");
     assert_eq!(rt; words[2].as_str(), "\u{e9}");
     assert_eq!(rt; words[3].as_bytes(), long.as_slice());
-    let bare = words_given(rt.alloc(), &Given(&[])).ok().ok_or("none")?;
+    let bare = words_given(rt.alloc(), &Given(&[])).ok().ok_or("words")?;
     assert_eq!(rt; bare.len(), 0);
     Ok(())
 }

@@ -43,9 +43,7 @@ fn ends_with_their_codes_and_lines(rt: HostRuntime) -> Result<(), Fail> {
         (Status::Edit(undone), 9, &b"edit 4 NoProperty\n"[..]),
     ];
     for (status, code, line) in &table {
-        let mut sink = MemorySink::new(rt.alloc(), 1000, Vec::new(rt.alloc()))
-            .ok()
-            .ok_or("memory")?;
+        let mut sink = MemorySink::new(rt.alloc(), 1000, Vec::new(rt.alloc()))?;
         assert_eq!(rt; status.code(), *code);
         assert!(rt; write_report(&mut sink, status).is_ok());
         assert_eq!(rt; sink.bytes(), *line);

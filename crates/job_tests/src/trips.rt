@@ -16,7 +16,7 @@ const ENTRY: [u8; 16] = [
 
 #[test]
 fn a_stream_goes_through_all_forms(rt: HostRuntime) -> Result<(), Fail> {
-    let got = trip(rt.alloc(), &ONE_PROPERTY).ok().ok_or("trip")?;
+    let got = trip(rt.alloc(), &ONE_PROPERTY)?;
     assert_eq!(rt; got.tnef.as_slice(), ONE_PROPERTY.as_slice());
     assert_eq!(rt; got.envelope.len(), 256);
     assert_eq!(rt; got.carried.as_slice(), ONE_PROPERTY.as_slice());

@@ -38,8 +38,8 @@ fn cut_null<'a>(view: &StreamView<'a>, null: usize) -> Result<StreamView<'a>, No
     Ok(view.prefix(len - null)?)
 }
 
-/// The element at a place of a multiple text, whose size its length stream has; None where its stream is missing. The
-/// fault is BadElement at the size of its stream. [MS-OXMSG 2.1.4]
+/// The element at a place of a multiple text, whose size its length stream has; None where its stream is missing and the
+/// size is not that of an empty one. The fault is BadElement at the size of its stream. [MS-OXMSG 2.1.4]
 fn element<'a>(
     alloc: Global,
     files: &Files<'a>,

@@ -87,13 +87,13 @@ fn list(alloc: Global) -> Result<Props<&'static [u8]>, Fail>
     props
         .insert_sorted(Prop { key, value })
         .ok()
-        .ok_or("a number")?;
+        .ok_or("a property")?;
     let (kind, bytes) = (Kind::String, LETTER);
     let (key, value) = (Key::Id(0x3001), Value::Bytes { kind, bytes });
     props
         .insert_sorted(Prop { key, value })
         .ok()
-        .ok_or("a text")?;
+        .ok_or("a property")?;
     let mut list = Parts::new(alloc);
     list.push(LETTER)?;
     let kind = Kind::MultipleString;
@@ -101,7 +101,7 @@ fn list(alloc: Global) -> Result<Props<&'static [u8]>, Fail>
     props
         .insert_sorted(Prop { key, value })
         .ok()
-        .ok_or("texts")?;
+        .ok_or("a property")?;
     Ok(props)
 }
 

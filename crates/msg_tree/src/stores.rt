@@ -20,6 +20,7 @@ pub struct Store<B: Blob> {
     pub(crate) entries: Vec<Entry<B>>,
 }
 
+/// A member of a store under its name.
 #[derive(Drop)]
 #[cycle(store)]
 pub(crate) struct Entry<B: Blob> {

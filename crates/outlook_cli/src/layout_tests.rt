@@ -136,7 +136,7 @@ fn entry_name(rt: &HostRuntime, name: &str) -> Result<Vec<u8>, Fail> {
     for letter in name.as_bytes() {
         field.extend_from_slice(&[*letter, 0])?;
     }
-    let size = u8::try_from(field.len()).ok().ok_or("a name")?;
+    let size = u8::try_from(field.len())?;
     for _ in field.len()..64 {
         field.push(0)?;
     }

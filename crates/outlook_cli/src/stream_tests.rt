@@ -21,12 +21,13 @@ pub(crate) const NAMED: [u8; 32] = [
     0, 0, 1, 0, 0, 0,
 ];
 
+/// Appends an attribute with its sum.
 pub(crate) fn attribute(out: &mut Vec<u8>, level: u8, id: u32, value: &[u8]) -> Result<(), Fail> {
     let mut sum = 0u16;
     for byte in value {
         sum = sum.wrapping_add(u16::from(*byte));
     }
-    let len = u32::try_from(value.len()).ok().ok_or("a length")?;
+    let len = u32::try_from(value.len())?;
     out.push(level)?;
     out.extend_from_slice(&le32(id))?;
     out.extend_from_slice(&le32(len))?;
@@ -64,7 +65,7 @@ pub(crate) fn with_object(rt: &HostRuntime, size: u32, value: &[&[u8]]) -> Resul
 pub(crate) fn nested_over(rt: &HostRuntime, inner: &[u8], levels: u32) -> Result<Vec<u8>, Fail> {
     let mut stream = inner.to_vec(rt.alloc())?;
     for _ in 0..levels {
-        let size = u32::try_from(stream.len()).ok().ok_or("a length")?;
+        let size = u32::try_from(stream.len())?;
         let size = size.checked_add(16).ok_or("a size")?;
         let zeros = [0u8; 3];
         let padding = &zeros[..((4 - size % 4) % 4) as usize];
@@ -78,7 +79,7 @@ fn nested(rt: &HostRuntime, levels: u32) -> Result<Vec<u8>, Fail> {
     nested_over(rt, &listed(rt, &[0, 0, 0, 0])?, levels)
 }
 
-/// A list of texts in 16-bit units, a list of a text with two nulls, and one of a number by name.
+/// A list of texts in 16-bit units, and a list of a text with two nulls.
 const TEXTS: [u8; 28] = [
     1, 0, 0, 0, 0x1f, 0x10, 0x34, 0x12, 2, 0, 0, 0, 4, 0, 0, 0, 0x41, 0, 0, 0, 2, 0, 0, 0, 0, 0, 0,
     0,

@@ -46,12 +46,8 @@ pub(crate) fn run_over(
         list.push(String::from_str(alloc, word)?)?;
     }
     let mut source = MemorySource::new(input.to_vec(alloc)?, failing_reads.to_vec(alloc)?);
-    let mut sink = MemorySink::new(alloc, 100_000, failing_writes.to_vec(alloc)?)
-        .ok()
-        .ok_or("memory")?;
-    let mut report = MemorySink::new(alloc, 1000, Vec::new(alloc))
-        .ok()
-        .ok_or("memory")?;
+    let mut sink = MemorySink::new(alloc, 100_000, failing_writes.to_vec(alloc)?)?;
+    let mut report = MemorySink::new(alloc, 1000, Vec::new(alloc))?;
     let status = run(alloc, &list, &mut source, &mut sink, &mut report);
     Ok(Outcome {
         status,

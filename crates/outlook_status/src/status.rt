@@ -1,3 +1,4 @@
+//! How a command ends.
 use carrier_io::Fault;
 use msg_tree::Limit;
 use tree_edit::EditFault;

@@ -72,6 +72,7 @@ impl<'a> Attributes<'a> {
         }
     }
 
+    /// Puts an attribute behind the others. The list is unchanged where memory is refused.
     pub(crate) fn push(&mut self, attribute: Attribute<'a>) -> Result<(), NoMemory>
         ensures ok { OnOk result (self.new ≡ self.old ++ view attribute.entry ∷ []) }
         ensures err { OnErr result (self.new ≡ self.old) }

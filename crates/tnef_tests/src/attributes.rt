@@ -11,9 +11,7 @@ const STREAM: [u8; 21] = [
 
 #[test]
 fn attributes_are_read(rt: HostRuntime) -> Result<(), Fail> {
-    let attributes = Attributes::read(rt.alloc(), &STREAM, 0)
-        .ok()
-        .ok_or("a stream")?;
+    let attributes = Attributes::read(rt.alloc(), &STREAM, 0)?;
     assert_eq!(rt; attributes.len(), 1);
     let version = attributes.get(0);
     assert_eq!(rt; version.level, 1);
@@ -26,12 +24,8 @@ fn attributes_are_read(rt: HostRuntime) -> Result<(), Fail> {
 
 #[test]
 fn attributes_are_written(rt: HostRuntime) -> Result<(), Fail> {
-    let mut sink = MemorySink::new(rt.alloc(), 100, Vec::new(rt.alloc()))
-        .ok()
-        .ok_or("memory")?;
-    write_attribute(&mut sink, 1, 0x0008_9006, &[0, 0, 1, 0])
-        .ok()
-        .ok_or("room")?;
+    let mut sink = MemorySink::new(rt.alloc(), 100, Vec::new(rt.alloc()))?;
+    write_attribute(&mut sink, 1, 0x0008_9006, &[0, 0, 1, 0])?;
     assert_eq!(rt; sink.bytes(), &STREAM[6..]);
     assert_eq!(rt; sum16(&[255, 255]), 510);
     Ok(())

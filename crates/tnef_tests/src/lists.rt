@@ -58,9 +58,7 @@ impl<'a> Holds<&'a [u8]> for Kept<'a> {
 fn texts_are_read(rt: HostRuntime) -> Result<(), Fail> {
     let alloc = rt.alloc();
     let mut passed = PassedList::new(alloc);
-    let texts: ReadList<'_, Kept<'_>> = read_list(alloc, &TWO_TEXTS, 0, 0, Part::Top, &mut passed)
-        .ok()
-        .ok_or("a list")?;
+    let texts: ReadList<'_, Kept<'_>> = read_list(alloc, &TWO_TEXTS, 0, 0, Part::Top, &mut passed)?;
     assert_eq!(rt; (texts.props.len(), texts.end), (1, 28));
     match &texts.props.get(0).value {
         Value::Parts { kind, list } => {
@@ -77,9 +75,7 @@ fn texts_are_read(rt: HostRuntime) -> Result<(), Fail> {
 fn names_are_read(rt: HostRuntime) -> Result<(), Fail> {
     let alloc = rt.alloc();
     let mut passed = PassedList::new(alloc);
-    let named: ReadList<'_, Kept<'_>> = read_list(alloc, &NAMED, 0, 0, Part::Top, &mut passed)
-        .ok()
-        .ok_or("a list")?;
+    let named: ReadList<'_, Kept<'_>> = read_list(alloc, &NAMED, 0, 0, Part::Top, &mut passed)?;
     assert_eq!(rt; named.props.len(), 1);
     match &named.props.get(0).key {
         Key::Named(Name::Number { number, .. }) => assert_eq!(rt; *number, 0x820d),
@@ -140,14 +136,10 @@ fn a_list_is_written(rt: HostRuntime) -> Result<(), Fail> {
             bytes: &[0x41, 0][..],
         },
     };
-    props.insert_sorted(text).ok().ok_or("memory")?;
+    props.insert_sorted(text).ok().ok_or("a text")?;
     let names = NameSet::new(alloc);
-    let mut sink = MemorySink::new(alloc, 100, Vec::new(alloc))
-        .ok()
-        .ok_or("memory")?;
-    write_range(&mut sink, &props, &names, 0, 1)
-        .ok()
-        .ok_or("room")?;
+    let mut sink = MemorySink::new(alloc, 100, Vec::new(alloc))?;
+    write_range(&mut sink, &props, &names, 0, 1)?;
     let wanted = [0x1f, 0, 0x34, 0x12, 1, 0, 0, 0, 4, 0, 0, 0, 0x41, 0, 0, 0];
     assert_eq!(rt; sink.bytes(), wanted.as_slice());
     assert_eq!(rt; range_sum(&props, &names, 0, 1), 0xab);

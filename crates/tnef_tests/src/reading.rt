@@ -23,7 +23,7 @@ const MESSAGE: [u8; 16] = [7, 3, 2, 0, 0, 0, 0, 0, 0xc0, 0, 0, 0, 0, 0, 0, 0x46]
 const STORAGE: [u8; 16] = [0x0b, 0, 0, 0, 0, 0, 0, 0, 0xc0, 0, 0, 0, 0, 0, 0, 0x46];
 
 fn attribute(out: &mut Vec<u8>, level: u8, id: u32, value: &[u8]) -> Result<(), Fail> {
-    let len = u32::try_from(value.len()).ok().ok_or("a length")?;
+    let len = u32::try_from(value.len())?;
     out.extend_from_slice(&attribute_head(level, id, len))?;
     out.extend_from_slice(value)?;
     out.extend_from_slice(&le16(sum16(value)))?;
@@ -49,7 +49,7 @@ fn with_object(rt: &HostRuntime, size: u32, value: &[&[u8]]) -> Result<Vec<u8>, 
 fn nested(rt: &HostRuntime, levels: u32) -> Result<Vec<u8>, Fail> {
     let mut stream = Vec::from_slice(rt.alloc(), &FRONT)?;
     for _ in 0..levels {
-        let size = u32::try_from(stream.len()).ok().ok_or("a length")?;
+        let size = u32::try_from(stream.len())?;
         let size = size.checked_add(16).ok_or("a size")?;
         stream = with_object(rt, size, &[&MESSAGE, &stream, &[0, 0, 0]])?;
     }
@@ -99,7 +99,7 @@ fn a_stream_is_read(rt: HostRuntime) -> Result<(), Fail> {
     let mut stream = Vec::from_slice(rt.alloc(), &FRONT)?;
     stream.extend_from_slice(&ONE)?;
     assert!(rt; stream.len() <= 1000);
-    let accepted = read_tnef(rt.alloc(), &stream).ok().ok_or("a message")?;
+    let accepted = read_tnef(rt.alloc(), &stream)?;
     let props = &accepted.tree.top().props;
     assert_eq!(rt; props.len(), 1);
     let number = number_of(props, 0x0017, Kind::Integer32).ok_or("a number")?;
@@ -152,7 +152,7 @@ fn faults_of_objects(rt: HostRuntime) -> Result<(), Fail> {
 fn streams_in_streams(rt: HostRuntime) -> Result<(), Fail> {
     let stream = nested(&rt, 32)?;
     assert!(rt; stream.len() <= 268_435_456);
-    let accepted = read_tnef(rt.alloc(), &stream).ok().ok_or("a message")?;
+    let accepted = read_tnef(rt.alloc(), &stream)?;
     assert_eq!(rt; depth(&accepted.tree), 32);
     Ok(())
 }
@@ -164,7 +164,7 @@ const DATE: [u8; 14] = [0xe8, 7, 2, 0, 0x1d, 0, 0x0c, 0, 0, 0, 0, 0, 4, 0];
 fn a_date_is_a_time(rt: HostRuntime) -> Result<(), Fail> {
     let stream = with_attribute(&rt, 1, 0x0003_8005, &DATE)?;
     assert!(rt; stream.len() <= 1000);
-    let accepted = read_tnef(rt.alloc(), &stream).ok().ok_or("a message")?;
+    let accepted = read_tnef(rt.alloc(), &stream)?;
     let sent = number_of(&accepted.tree.top().props, 0x0039, Kind::Time).ok_or("a time")?;
     assert_eq!(rt; sent, 133_536_816_000_000_000);
     Ok(())
@@ -176,7 +176,7 @@ fn a_list_before_a_date(rt: HostRuntime) -> Result<(), Fail> {
     let list = [1, 0, 0, 0, 2, 1, 0x39, 0, 1, 0, 0, 0, 0, 0, 0, 0];
     attribute(&mut stream, 1, 0x0006_9003, &list)?;
     assert!(rt; stream.len() <= 1000);
-    let accepted = read_tnef(rt.alloc(), &stream).ok().ok_or("a message")?;
+    let accepted = read_tnef(rt.alloc(), &stream)?;
     let props = &accepted.tree.top().props;
     assert_eq!(rt; props.len(), 1);
     let kept = bytes_of(props, 0x0039, Kind::Binary).ok_or("bytes")?;

@@ -38,7 +38,7 @@ fn attach_store(alloc: Global, message: &mut Message<Vec<u8>>, class: u8) -> Res
         props: Props::new(alloc),
         body: Body::Store(Store::new(alloc, [class; 16])),
     };
-    message.attachments.push(attachment).ok().ok_or("memory")?;
+    message.attachments.push(attachment)?;
     Ok(())
 }
 
@@ -52,23 +52,21 @@ fn attach_message(
         props: Props::new(alloc),
         body: Body::Message(Box::new(alloc, inner)?),
     };
-    message.attachments.push(attachment).ok().ok_or("memory")?;
+    message.attachments.push(attachment)?;
     Ok(())
 }
 
 /// The stream of a message.
 fn written(alloc: Global, message: Message<Vec<u8>>) -> Result<Vec<u8>, Fail> {
     let tree = Tree::new(message).ok().ok_or("a tree")?;
-    let names = names(alloc, &tree).ok().ok_or("memory")?;
+    let names = names(alloc, &tree)?;
     if fits_tnef(&tree, &names).is_some() {
         return Err("few names".into());
     }
-    let plan = TnefPlan::new(alloc, &tree, &names).ok().ok_or("a plan")?;
+    let plan = TnefPlan::new(alloc, &tree, &names)?;
     let size = plan.size() as usize;
-    let mut sink = MemorySink::new(alloc, size, Vec::new(alloc))
-        .ok()
-        .ok_or("memory")?;
-    plan.write(&mut sink).ok().ok_or("room")?;
+    let mut sink = MemorySink::new(alloc, size, Vec::new(alloc))?;
+    plan.write(&mut sink)?;
     Ok(sink.bytes().to_vec(alloc)?)
 }
 
@@ -83,7 +81,7 @@ fn a_property_is_written(rt: HostRuntime) -> Result<(), Fail> {
             bits: 2,
         },
     };
-    top.props.insert_sorted(importance).ok().ok_or("memory")?;
+    top.props.insert_sorted(importance).ok().ok_or("a number")?;
     let stream = written(alloc, top)?;
     assert_eq!(rt; stream.as_slice(), ONE_PROPERTY.as_slice());
     Ok(())

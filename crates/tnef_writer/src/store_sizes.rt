@@ -6,9 +6,10 @@ use cfb_writer::Plan;
 pub trait StoreSize {
     ghost use Rattle.std.specs.Prelude.{◌≡◌, ℕ};
 
-    /// How many; a number that is above the greatest `u64` stays there.
+    /// How many these are as plain data.
     ghost bytes: { Self → ℕ };
 
+    /// How many bytes the file has; a number that is above the greatest `u64` stays there.
     fn size(&self) -> u64
         ensures { result ≡ bytes self.now };
 }

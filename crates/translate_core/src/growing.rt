@@ -14,6 +14,7 @@ impl Growing {
     ghost use Rattle.std.specs.Prelude.{◌≡◌, Some, []};
     ghost use Rattle.translate_core.specs.Trips.{growing_held};
 
+    /// No bytes.
     pub(crate) fn new(alloc: Global) -> Growing
         ensures { growing_held result ≡ Some [] }
     {

@@ -35,7 +35,7 @@ pub fn equal_outputs_are_of_one_message()
 }
 
 /// The stream that is written for a message is taken as that message by each job but the one that takes mails, and the mail
-/// that is written for a stream is taken by that one. So no job refuses what another one wrote for it.
+/// that is written for a stream is taken by that one.
 pub fn outputs_are_taken_on()
     ensures streams { (next : Job) (b : List ℕ) (m : Meaning) → next ≢ unwrap → AllBytes b → Accepts to_tnef b m → passed_limit to_tnef m.message b ≡ None → Accepts next (tnef_of m.message) (kept to_tnef m) }
     ensures mails { (b : List ℕ) (m : Meaning) → AllBytes b → Accepts wrap b m → passed_limit wrap m.message b ≡ None → Accepts unwrap (envelope_of b) m }

@@ -1,4 +1,4 @@
-//! Lists in chunks of 256 elements. An element is taken out in a step for each full chunk before it, and at most 256 moves.
+//! Lists in chunks of 256 elements. An element is taken out in a step for each chunk before it, and at most 256 moves.
 ghost use Rattle.std.specs.Prelude.{◌≡◌, ◌≤◌, ◌<◌, ◌+◌, [], ◌∷◌, ◌++◌, length, take, slice_get, Some, OnOk, IfOk, IfSome, IfNone};
 ghost use Rattle.std.specs.List.{flat_map, remove as remove_at};
 ghost use Rattle.tree_edit.specs.ChunkedLists.{listed};

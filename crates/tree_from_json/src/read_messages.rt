@@ -48,7 +48,7 @@ fn read_storing(alloc: Global, value: &Value) -> Result<Attachment<Vec<u8>>, Rea
     Ok(Attachment { props, body })
 }
 
-/// An attachment with a message, which may have so many levels below it.
+/// An attachment with a message, where so many levels may still be, its own among them.
 #[cycle(reading)]
 fn read_embedding(alloc: Global, value: &Value, levels: u64) -> Result<Attachment<Vec<u8>>, ReadEnd>
     ensures { Reads (attached_of (λ b. b.items)) (plain.read_embedding (plain.read_within levels) (view value.now)) result }

@@ -93,7 +93,7 @@ fn texts_in_units(rt: HostRuntime) -> Result<(), Fail> {
     for (number, bytes, wide) in texts {
         let tree = tree_of(rt.alloc(), subject(bytes)?, Some(number))?;
         let expected = tree_of(rt.alloc(), wide_subject(wide)?, Some(number))?;
-        let made = unicode_of(rt.alloc(), &tree).ok().ok_or("a conversion")?;
+        let made = unicode_of(rt.alloc(), &tree)?;
         assert!(rt; same(&made, &expected), "{number}");
     }
     Ok(())
@@ -142,9 +142,9 @@ fn nested(alloc: Global, outer: Prop<Text>, inner: Prop<Text>) -> Result<Tree<Te
     let inner = message_of(alloc, inner, None)?;
     let attachment = Attachment {
         props: Props::new(alloc),
-        body: Body::Message(Box::new(alloc, inner).ok().ok_or("room")?),
+        body: Body::Message(Box::new(alloc, inner)?),
     };
-    message.attachments.push(attachment).ok().ok_or("room")?;
+    message.attachments.push(attachment)?;
     let tree = Tree::new(message).ok().ok_or("a tree")?;
     Ok(tree)
 }
@@ -154,7 +154,7 @@ fn a_message_in_another(rt: HostRuntime) -> Result<(), Fail> {
     let alloc = rt.alloc();
     let tree = nested(alloc, subject(b"\xc3\xa4")?, subject(b"\xe2\x82\xac")?)?;
     let expected = nested(alloc, wide_subject(b"\xe4\0")?, wide_subject(b"\xac\x20")?)?;
-    let made = unicode_of(alloc, &tree).ok().ok_or("a conversion")?;
+    let made = unicode_of(alloc, &tree)?;
     assert!(rt; same(&made, &expected));
     Ok(())
 }

@@ -34,7 +34,7 @@ fn message(
     attachments: Attachments<Vec<u8>>,
 ) -> Result<Message<Vec<u8>>, Fail> {
     Ok(Message {
-        props: numbers(alloc, bits).ok().ok_or("a list")?,
+        props: numbers(alloc, bits).ok().ok_or("numbers")?,
         recipients: Recipients::new(alloc),
         attachments,
     })

@@ -38,7 +38,7 @@ fn the_json_of_one_property(rt: HostRuntime) -> Result<(), Fail> {
     let alloc = rt.alloc();
     let message = small(alloc).ok().ok_or("a message")?;
     let tree = Tree::new(message).ok().ok_or("a tree")?;
-    let text = json_of(alloc, &tree).ok().ok_or("a text")?;
+    let text = json_of(alloc, &tree)?;
     assert_eq!(rt;
         text.as_str(),
         "{\"attachments\":[],\"properties\":[{\"key\":\"0017\",\"kind\":\"Integer32\",\"value\":2}],\"recipients\":[]}"
@@ -50,25 +50,13 @@ fn the_json_of_one_property(rt: HostRuntime) -> Result<(), Fail> {
 #[test]
 fn parts_of_json_texts(rt: HostRuntime) -> Result<(), Fail> {
     let alloc = rt.alloc();
-    let mut sink = MemorySink::new(alloc, 100, Vec::new(alloc))
-        .ok()
-        .ok_or("memory")?;
+    let mut sink = MemorySink::new(alloc, 100, Vec::new(alloc))?;
     let mut count = 0;
-    append_number(&mut sink, &mut count, 18_446_744_073_709_551_615)
-        .ok()
-        .ok_or("room")?;
-    append_digits(&mut sink, &mut count, &[0, 255].as_slice())
-        .ok()
-        .ok_or("room")?;
-    append_string(&mut sink, &mut count, b"\"\\/\n\x1f\x7f")
-        .ok()
-        .ok_or("room")?;
-    append_text(&mut sink, &mut count, &[0x22, 0, 0xac, 0x20].as_slice())
-        .ok()
-        .ok_or("room")?;
-    append_name(&mut sink, &mut count, &[0xdc00])
-        .ok()
-        .ok_or("room")?;
+    append_number(&mut sink, &mut count, 18_446_744_073_709_551_615)?;
+    append_digits(&mut sink, &mut count, &[0, 255].as_slice())?;
+    append_string(&mut sink, &mut count, b"\"\\/\n\x1f\x7f")?;
+    append_text(&mut sink, &mut count, &[0x22, 0, 0xac, 0x20].as_slice())?;
+    append_name(&mut sink, &mut count, &[0xdc00])?;
     let wanted =
         "18446744073709551615\"00ff\"\"\\\"\\\\/\\n\\u001f\x7f\"\"\\\"\u{20ac}\"{\"units\":\"00dc\"}";
     assert_eq!(rt; sink.bytes(), wanted.as_bytes());
@@ -77,9 +65,9 @@ fn parts_of_json_texts(rt: HostRuntime) -> Result<(), Fail> {
 }
 
 /// A store with a stream and an empty storage.
-fn store(alloc: Global) -> Result<Store<Vec<u8>>, &'static str> {
+fn store(alloc: Global) -> Result<Store<Vec<u8>>, Fail> {
     let mut store = Store::new(alloc, [2; 16]);
-    let bytes = Vec::from_slice(alloc, &[1, 255]).ok().ok_or("bytes")?;
+    let bytes = Vec::from_slice(alloc, &[1, 255])?;
     let inner = Store::new(alloc, [1; 16]);
     store
         .insert(&[0x62], Member::Stream(bytes))
@@ -93,11 +81,9 @@ fn store(alloc: Global) -> Result<Store<Vec<u8>>, &'static str> {
 }
 
 /// A message with a text, a name that is no well-formed text, a recipient, and a store in an attachment.
-fn larger(alloc: Global) -> Result<Message<Vec<u8>>, &'static str> {
+fn larger(alloc: Global) -> Result<Message<Vec<u8>>, Fail> {
     let mut message = empty(alloc);
-    let bytes = Vec::from_slice(alloc, &[0xe9, 0, 0x3d, 0xd8, 0, 0xde])
-        .ok()
-        .ok_or("bytes")?;
+    let bytes = Vec::from_slice(alloc, &[0xe9, 0, 0x3d, 0xd8, 0, 0xde])?;
     let text = Prop {
         key: Key::Id(0x0037),
         value: Value::Bytes {
@@ -107,8 +93,8 @@ fn larger(alloc: Global) -> Result<Message<Vec<u8>>, &'static str> {
     };
     message.props.insert_sorted(text).ok().ok_or("a text")?;
     let mut units = Units::new(alloc);
-    units.push(0xd800).ok().ok_or("a unit")?;
-    let name = Name::of_text(alloc, SET, units).ok().ok_or("a name")?;
+    units.push(0xd800)?;
+    let name = Name::of_text(alloc, SET, units)?;
     let named = Prop {
         key: Key::Named(name),
         value: Value::Guid(RISING),
@@ -123,20 +109,12 @@ fn larger(alloc: Global) -> Result<Message<Vec<u8>>, &'static str> {
         value: Value::Guid(RISING),
     };
     recipient.insert_sorted(number).ok().ok_or("a number")?;
-    message
-        .recipients
-        .push(recipient)
-        .ok()
-        .ok_or("a recipient")?;
+    message.recipients.push(recipient)?;
     let attachment = Attachment {
         props: Props::new(alloc),
         body: Body::Store(store(alloc)?),
     };
-    message
-        .attachments
-        .push(attachment)
-        .ok()
-        .ok_or("an attachment")?;
+    message.attachments.push(attachment)?;
     Ok(message)
 }
 
@@ -144,7 +122,7 @@ fn larger(alloc: Global) -> Result<Message<Vec<u8>>, &'static str> {
 fn the_json_of_texts_and_a_store(rt: HostRuntime) -> Result<(), Fail> {
     let message = larger(rt.alloc())?;
     let tree = Tree::new(message).ok().ok_or("a tree")?;
-    let text = json_of(rt.alloc(), &tree).ok().ok_or("a text")?;
+    let text = json_of(rt.alloc(), &tree)?;
     assert_eq!(rt;
         text.as_str(),
         "{\"attachments\":[{\"properties\":[],\"store\":{\"class\":\"02020202020202020202020202020202\",\"members\":[{\"data\":\"01ff\",\"path\":[\"b\"]},{\"class\":\"01010101010101010101010101010101\",\"path\":[\"CC\"]}]}}],\"properties\":[{\"key\":\"0037\",\"kind\":\"String\",\"value\":\"\u{e9}\u{1f600}\"},{\"key\":{\"set\":\"62626262626262626262626262626262\",\"text\":{\"units\":\"00d8\"}},\"kind\":\"Guid\",\"value\":\"000102030405060708090a0b0c0d0e0f\"}],\"recipients\":[[{\"key\":{\"number\":33293,\"set\":\"62626262626262626262626262626262\"},\"kind\":\"Guid\",\"value\":\"000102030405060708090a0b0c0d0e0f\"}]]}"

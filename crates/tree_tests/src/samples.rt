@@ -4,7 +4,7 @@ use tree_samples::sample;
 
 #[test]
 fn one_of_each(rt: HostRuntime) -> Result<(), Fail> {
-    let tree = sample(rt.alloc(), 1).ok().ok_or("a tree")?;
+    let tree = sample(rt.alloc(), 1)?;
     let expected = Counts {
         messages: 2,
         recipients: 1,
@@ -13,7 +13,7 @@ fn one_of_each(rt: HostRuntime) -> Result<(), Fail> {
         depth: 1,
     };
     assert_eq!(rt; counts(&tree), expected);
-    let names = names(rt.alloc(), &tree).ok().ok_or("a name")?;
+    let names = names(rt.alloc(), &tree)?;
     assert_eq!(rt; names.len(), 1);
     Ok(())
 }

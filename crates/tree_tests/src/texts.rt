@@ -203,10 +203,8 @@ fn boxed<B: Blob>(alloc: Global, message: Message<B>) -> Result<Box<Message<B>>,
 }
 
 fn printed<P: Writing>(alloc: Global, text: &P) -> Result<Vec<u8>, Fail> {
-    let mut sink = MemorySink::new(alloc, 2000, Vec::new(alloc))
-        .ok()
-        .ok_or("no memory")?;
-    write_gathered(text, &mut sink).ok().ok_or("failed")?;
+    let mut sink = MemorySink::new(alloc, 2000, Vec::new(alloc))?;
+    write_gathered(text, &mut sink)?;
     Ok(sink.bytes().to_vec(alloc)?)
 }
 
@@ -229,13 +227,10 @@ fn with_store(alloc: Global) -> Result<Tree<&'static [u8]>, Fail> {
     let member = Member::Stream(b"abc".as_slice());
     store.insert(&[0x61], member).ok().ok_or("a store")?;
     let mut top = of_list(alloc, Props::new(alloc));
-    top.attachments
-        .push(Attachment {
-            props: Props::new(alloc),
-            body: Body::Store(store),
-        })
-        .ok()
-        .ok_or("no memory")?;
+    top.attachments.push(Attachment {
+        props: Props::new(alloc),
+        body: Body::Store(store),
+    })?;
     Ok(Tree::new(top).ok().ok_or("a tree")?)
 }
 
@@ -247,23 +242,17 @@ fn texts_of_a_store(rt: HostRuntime) -> Result<(), Fail> {
     let wanted = "message\n  attachment 0\n    storage 1 streams 3 bytes\n";
     assert_eq!(rt; shown.as_slice(), wanted.as_bytes());
     let mut passed = PassedList::new(alloc);
-    passed
-        .push(Passed {
-            attribute: true,
-            what: 0x0006_9005,
-            offset: 17,
-        })
-        .ok()
-        .ok_or("no memory")?;
-    passed
-        .push(Passed {
-            attribute: false,
-            what: 0x3701_000d,
-            offset: 99,
-        })
-        .ok()
-        .ok_or("no memory")?;
-    let names = names(alloc, &tree).ok().ok_or("no memory")?;
+    passed.push(Passed {
+        attribute: true,
+        what: 0x0006_9005,
+        offset: 17,
+    })?;
+    passed.push(Passed {
+        attribute: false,
+        what: 0x3701_000d,
+        offset: 99,
+    })?;
+    let names = names(alloc, &tree)?;
     let text = CheckText::new(TreeCarrier::Tnef, &tree, &passed, &names);
     let checked = printed(alloc, &text)?;
     let wanted =
@@ -275,13 +264,9 @@ fn texts_of_a_store(rt: HostRuntime) -> Result<(), Fail> {
 #[test]
 fn lines_of_a_sample(rt: HostRuntime) -> Result<(), Fail> {
     let alloc = rt.alloc();
-    let mut sink = MemorySink::new(alloc, 100, Vec::new(alloc))
-        .ok()
-        .ok_or("no memory")?;
-    write_count(&mut sink, b"sample", 1).ok().ok_or("failed")?;
-    write_size(&mut sink, b"tnef", 410, 10968)
-        .ok()
-        .ok_or("failed")?;
+    let mut sink = MemorySink::new(alloc, 100, Vec::new(alloc))?;
+    write_count(&mut sink, b"sample", 1)?;
+    write_size(&mut sink, b"tnef", 410, 10968)?;
     assert_eq!(rt;
         sink.bytes(),
         "sample 1\ntnef 410 bytes sum 10968\n".as_bytes()

@@ -6,9 +6,7 @@ use std::test::*;
 fn parts_of_a_value(rt: HostRuntime) -> Result<(), Fail> {
     let text = "{\"b\":[1,-2,\"x\\u0041\"],\"a\":1,\"a\":18446744073709551615}";
     let mut scratch = Scratch::new(rt.alloc());
-    let value = parse(rt.alloc(), text.as_bytes(), &mut scratch)
-        .ok()
-        .ok_or("a value")?;
+    let value = parse(rt.alloc(), text.as_bytes(), &mut scratch)?;
     assert!(rt; has_only(&value, &["a", "b"]));
     assert!(rt; !has_only(&value, &["a"]));
     let last = get(&value, "a").ok_or("a member")?;

@@ -7,7 +7,7 @@ ghost use Rattle.tree_texts.specs.Sizes.{size_line};
 use carrier_io::{Failed, Sink, write_parts, write_pieces};
 use prop_names::write_decimal;
 
-/// The most spaces before a line.
+/// Room for the spaces before a line.
 const MOST_SPACES: usize = 160;
 
 static SPACES: [u8; MOST_SPACES] = [b' '; MOST_SPACES];
