@@ -2,13 +2,13 @@
 """Times the built program on large inputs, beside sha256sum on the same file.
 
     make build                                    builds crates/outlook_cli/out/outlook_cli
-    bench/bench.py                                all cases; the inputs take up to 1 GB in a temporary folder
+    bench/bench.py                                all cases; one input at a time, of up to 180 MB, in a temporary folder
     bench/bench.py --scale 8 --runs 1 named       an eighth of each size, one run, the cases with 'named' in their names
     bench/bench.py --list                         the cases
 
 A line of a case has the processor time of the program (user and system, the least of the runs), that time over the
 one of sha256sum, the peak of memory in MiB, and the exit code. Pairs of cases of which one has half the size of the
-other, and those that differ in order, are set against each other at the end. `sample` reads none of its input. A case whose
+other, and some that differ in order, are set against each other at the end. `sample` reads none of its input. A case whose
 command or input the program does not know yet is marked so. Exit code 3 says that the result passes a limit of the target: so does to-tnef where
 there are more than 32,000 names, after all of the input was read.
 """

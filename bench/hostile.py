@@ -4,7 +4,7 @@
     make build                            builds crates/outlook_cli/out/outlook_cli
     bench/hostile.py                      all shapes; half an hour
     bench/hostile.py tnef names           the shapes with one of these words in their names
-    bench/hostile.py --rows               a table of all rows, too; else one row a shape, the worst of its commands
+    bench/hostile.py --rows               a table of all rows, in place of one row a shape, the worst of its commands
     bench/hostile.py --list               the shapes
 
 The bounds: twice the size takes at most 2.3 times the time; the time is at most 20 times that of sha256sum on the same

@@ -1,4 +1,4 @@
-"""Large inputs for bench.py: TNEF streams (MS-OXTNEF), envelopes (RFC 2045) and compound files (MS-CFB, MS-OXMSG)."""
+"""Inputs for the scripts beside this one: TNEF streams (MS-OXTNEF), envelopes (RFC 2045) and compound files (MS-CFB, MS-OXMSG)."""
 
 import base64
 import itertools

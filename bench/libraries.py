@@ -5,9 +5,10 @@
 
 builds small programs over the crates in a copy of this repository, and in one of an earlier commit where that is named,
 and times them side by side. What is built stays in the folder, where one is named. Large compound files of both versions
-are opened, a stream is put into a mail, and a mail is read. A line has the processor time (user and system, the least
-of three runs), its ratio to that of sha256sum, its ratio to the earlier commit's, and the exit code of both. Half as
-many entries are to take half the time; a last line for each shape has that ratio, and the memory for each entry more.
+are opened, a stream is put into a mail, and a mail is read. Each build has a line with its processor time (user and
+system, the least of three runs), the ratio of that to sha256sum's, what this commit takes over what that build takes, and
+its exit code. Half as many entries are to take half the time; a last line for each shape has that ratio, and the memory
+for each entry more.
 """
 
 import os

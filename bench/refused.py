@@ -6,9 +6,9 @@
     bench/refused.py show edit
 
 `refused.c`, put before the program by LD_PRELOAD, counts what the program asks for and refuses the k-th: a request for
-memory, a read, a write to standard output or one to standard error. For each command and input each request is refused
-in turn: all of the small input, and of the middling one the first 200 and then about a hundred more, evenly spaced. Reads and
-writes also give and take bytes in odd pieces. Every answer has to be one of these:
+memory, a read, a write to standard output or one to standard error. For each command and input each is refused in turn, of
+more than 200 the first 200 and then about a hundred more, evenly spaced; so it is with reads and writes that give and take
+1 and 4,097 bytes at a time, too. Every answer has to be one of these:
 
 - the one with ample memory and whole devices, output, report and exit code;
 - for a refused request code 6, nothing on standard output, and the line `no memory` or, before there is a report, none;

@@ -1,4 +1,5 @@
-"""The worst shapes of each carrier, each as a function of a count: twice the count is twice the bytes."""
+"""The worst shapes of each carrier, each as a function of a count: twice the count is twice the bytes, but for the long list
+that is edited, which stays while its edits double, and for values without streams, of which there are at most 32,000."""
 
 import functools
 import itertools
