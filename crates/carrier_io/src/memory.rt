@@ -114,7 +114,7 @@ impl MemorySink {
     pub fn bytes(&self) -> &[u8]
         ensures held { sink_held self.now ≡ Some result.now }
 
-        // A writer of fewer bytes than there is room for never fails.
+        // Where no call is told to fail, no call failed so far, as long as fewer bytes are held than there is room for.
         ensures sure { sink_failing self.now ≡ [] → length result.now < sink_room self.now → sink_faults self.now ≡ 0 }
     {
         &self.bytes

@@ -58,17 +58,22 @@ fn push_places(places: &mut Vec<Place>, file: u32, count: usize) -> Result<(), N
     Ok(())
 }
 
+/// How many files and storages the files of a list stand for, or the greatest number.
+fn count_places<B: Blob>(files: &[File<'_, B>]) -> usize {
+    let mut count = 0usize;
+    for file in files {
+        count = count.saturating_add(file.count());
+    }
+    count
+}
+
 /// The places of what files stand for, in the order of adding. NoMemory says that memory ran out, or that there is more
 /// than a number of 32 bits tells.
 fn places_in<B: Blob>(alloc: Global, files: &[File<'_, B>]) -> Result<Vec<Place>, NoMemory>
     ensures there { IfOk result (λ places. All (IsThere B.bytes files.now) places.items) }
     ensures all { IfOk result (λ places. map (child_at B.bytes files.now) places.items ≡ flat_map (file_children B.bytes) files.now) }
 {
-    let mut count = 0usize;
-    for file in files {
-        count = count.saturating_add(file.count());
-    }
-    let mut places = Vec::with_capacity(alloc, count)?;
+    let mut places = Vec::with_capacity(alloc, count_places(files))?;
     for k in 0..files.len() {
         let Ok(file) = u32::try_from(k) else {
             return Err(NoMemory);

@@ -64,7 +64,8 @@ fn read_size(bytes: &[u8], size: u32, at: usize) -> u64
     }
 }
 
-/// The entry whose first byte is at a place, in a file with sectors of this size. What a caller does not use is not read.
+/// The entry whose first byte is at a place, in a file with sectors of this size. Its code is
+/// put where it is called, so that what a caller does not use need not be read.
 #[inline(always)]
 pub fn read_entry(bytes: &[u8], size: u32, at: usize) -> Entry
     requires { at + 128 ≤ length bytes.now }

@@ -6,6 +6,7 @@ ghost use Rattle.json_values.specs.Ranges.{in_range, items_in_range, members_in_
 use crate::numbers::is_number_in_range;
 use json::Value;
 
+/// Whether each number in a value is one of 64 bits, or one whose nearest float is finite.
 #[cycle(range)]
 pub(crate) fn is_in_range(value: &Value<'_>) -> bool
     ensures { result ≡ in_range (json.value_view value.now) }
