@@ -9,6 +9,6 @@ loop-k-preserved g c =
     let old = c.loop-k.places.items in
     let new = c.push_places.new.places.items in
     record {
-      there = next_there of files c.loop-k.k file old new c.in-Ok.file c.count-in-loop-k.result c.loop-k-test.true c.index-files-k.is c.in-Ok.ensures.1 c.count-in-loop-k.ensures c.in_ok-push_places.ensures c.loop-k.invariant.there;
-      all = next_found of files c.loop-k.k file old new c.in-Ok.file c.count-in-loop-k.result c.loop-k-test.true c.index-files-k.is c.in-Ok.ensures.1 c.count-in-loop-k.ensures c.in_ok-push_places.ensures c.loop-k.invariant.all;
+      there = next_there of files c.loop-k.k file old new c.in-Ok.file c.count.result c.loop-k-test.true c.index-files-k.is c.in-Ok.ensures.1 c.count.ensures c.in_ok-push_places.ensures c.loop-k.invariant.there;
+      all = next_found of files c.loop-k.k file old new c.in-Ok.file c.count.result c.loop-k-test.true c.index-files-k.is c.in-Ok.ensures.1 c.count.ensures c.in_ok-push_places.ensures c.loop-k.invariant.all;
     }
