@@ -55,6 +55,24 @@ fits_next now then low byte unit more is u high fit none =
     let after : fits_with then more ≡ ((now.fits && fits now.high unit) && all_fit (waiting now.high unit) us) = rw (none, high, fit) refl in
     before ∙ ap (λ (b : Bool). now.fits && b) (next_fits now.high unit us) ∙ sym (and_assoc now.fits (fits now.high unit) (all_fit (waiting now.high unit) us)) ∙ sym after
 
+-- the same of a whole unit
+pub fits_unit : (now then : Utf16) (low high unit : ℕ) → now.low ≡ None → unit ≡ low + 256 * high → then.high ≡ waiting now.high unit → then.fits ≡ (now.fits && fits now.high unit) → then.low ≡ None
+    → (more : List ℕ) → fits_with now (low ∷ high ∷ more) ≡ fits_with then more
+fits_unit now then low high unit is u waits fit none more =
+    let us = units_of more in
+    let before : fits_with now (low ∷ high ∷ more) ≡ (now.fits && all_fit now.high (unit ∷ us)) = rw (is, u) refl in
+    let after : fits_with then more ≡ ((now.fits && fits now.high unit) && all_fit (waiting now.high unit) us) = rw (none, waits, fit) refl in
+    before ∙ ap (λ (b : Bool). now.fits && b) (next_fits now.high unit us) ∙ sym (and_assoc now.fits (fits now.high unit) (all_fit (waiting now.high unit) us)) ∙ sym after
+
+-- a unit, whose character is put behind the others
+pub unit_put : (now then : Utf16) (low high unit : ℕ) (one : Option ℕ) (there grown : List ℕ) → now.low ≡ None → unit ≡ low + 256 * high → then.high ≡ waiting now.high unit → then.low ≡ None → one ≡ completed now.high unit → grown ≡ there ++ character_text one
+    → (more : List ℕ) → there ++ text_left now (low ∷ high ∷ more) ≡ grown ++ text_left then more
+unit_put now then low high unit one there grown is u waits none made put more =
+    let us = units_of more in
+    let before : text_left now (low ∷ high ∷ more) ≡ character_text (completed now.high unit) ++ units_text (waiting now.high unit) us = rw (is, u) refl in
+    let after : text_left then more ≡ units_text (waiting now.high unit) us = rw (none, waits) refl in
+    ap (λ (z : List ℕ). there ++ z) (before ∙ rw (made, after) refl) ∙ sym (append_assoc there (character_text one) (text_left then more)) ∙ ap (λ (z : List ℕ). z ++ text_left then more) (sym put)
+
 -- ---- runs
 
 -- where a decoder has taken these bytes, and their characters were appended
@@ -148,6 +166,23 @@ fits_then {from = from} is p more = ap (λ (z : List ℕ). fits_with from (z ++ 
 
 pub fits_all : {from now : Utf16} {xs all : List ℕ} → xs ≡ all → Fits from now xs → fits_with now [] ≡ fits_with from all
 fits_all {from = from} {all = all} is p = sym (fits_then is p []) ∙ ap (fits_with from) (append-nil all)
+
+-- where a decoder has taken the bytes in front of these
+pub record FitsTo (from now : Utf16) (xs rest : List ℕ) : Type 0 where
+  pub fits : (more : List ℕ) → fits_with from (xs ++ more) ≡ fits_with now (rest ++ more)
+
+pub fits_to_start : (u : Utf16) (xs : List ℕ) → FitsTo u u xs xs
+fits_to_start u xs = record { fits = λ more. refl }
+
+-- one run more
+pub fits_to_more : {from now then : Utf16} {xs rest : List ℕ} (ys behind : List ℕ) → rest ≡ ys ++ behind → FitsTo from now xs rest → ((more : List ℕ) → fits_with now (ys ++ more) ≡ fits_with then more) → FitsTo from then xs behind
+fits_to_more {now = now} ys behind is p taken = record {
+  fits = λ more. p.fits more ∙ ap (λ (z : List ℕ). fits_with now (z ++ more)) is ∙ ap (fits_with now) (append_assoc ys behind more) ∙ taken (behind ++ more);
+}
+
+-- all was taken
+pub fits_to_end : {from now : Utf16} {xs rest : List ℕ} → rest ≡ [] → FitsTo from now xs rest → (more : List ℕ) → fits_with from (xs ++ more) ≡ fits_with now more
+fits_to_end {now = now} is p more = p.fits more ∙ ap (λ (z : List ℕ). fits_with now (z ++ more)) is
 
 -- ---- characters that are put together
 

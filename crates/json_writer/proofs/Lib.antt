@@ -4,3 +4,4 @@ pub mod Escapes
 pub mod HexStrings
 pub mod Decoding
 pub mod WellFormed
+pub mod PlainRuns

@@ -1,3 +1,4 @@
 pub mod Counted
 pub mod Units
 pub mod Decoded
+pub mod Plain

@@ -1,12 +1,12 @@
 //! Texts of characters, put together before they are appended. [RFC 8259, section 7]
-ghost use Rattle.std.specs.Prelude.{◌≡◌, ◌≤◌, ◌<◌, ◌+◌, ◌*◌, ◌/◌, ◌∷◌, ◌++◌, ℕ, List, length, take, false};
+ghost use Rattle.std.specs.Prelude.{◌≡◌, ◌≤◌, ◌<◌, ◌+◌, ◌*◌, ◌/◌, ◌∷◌, ◌++◌, ◌%◌, ℕ, List, None, length, take, false};
 ghost use Rattle.std.specs.Char.{encode_utf8, is_ascii};
 ghost use Rattle.json.specs.Print.{escape_byte, escape_letter, escape};
-ghost use Rattle.carrier_model.specs.Bytes.{le16, unit_bytes};
 ghost use Rattle.json_writer.specs.Decoded.{text_left};
 ghost use Rattle.json_writer.specs.Units.{character_text};
 
 use crate::characters::short_escape;
+use crate::plain::{are_plain, is_plain, put_plain, unit_at};
 use crate::utf16::Utf16;
 use prop_names::lower_digits2;
 
@@ -92,64 +92,62 @@ pub(crate) fn put_some(buffer: &mut [u8; ROOM], used: usize, character: Option<c
     }
 }
 
-/// Puts the characters that a decoder makes of two bytes.
-#[inline(always)]
-fn put_pair(buffer: &mut [u8; ROOM], used: usize, decoder: &mut Utf16, low: u8, high: u8) -> usize
-    requires { used + 12 ≤ ROOM }
-    ensures count { result ≤ used + 12 }
-    ensures text { (more : List ℕ) → take used buffer.old ++ text_left decoder.old (low ∷ high ∷ more) ≡ take result buffer.new ++ text_left decoder.new more }
-{
-    let used = put_some(buffer, used, decoder.take_byte(low));
-    put_some(buffer, used, decoder.take_byte(high))
-}
-
-/// Puts the characters that a decoder makes of a few bytes without an odd one at the end.
-fn put_pairs(buffer: &mut [u8; ROOM], decoder: &mut Utf16, bytes: &[u8]) -> usize
+/// Puts the characters that a decoder makes of bytes, one by one.
+fn put_bytes(buffer: &mut [u8; ROOM], decoder: &mut Utf16, bytes: &[u8]) -> usize
     requires { length bytes.now ≤ CHUNK }
-    ensures count { result ≤ 12 * (length bytes.now / 2) }
-    ensures text { (more : List ℕ) → text_left decoder.old (take (2 * (length bytes.now / 2)) bytes.now ++ more) ≡ take result buffer.new ++ text_left decoder.new more }
+    ensures count { result ≤ ROOM }
+    ensures text { (more : List ℕ) → text_left decoder.old (bytes.now ++ more) ≡ take result buffer.new ++ text_left decoder.new more }
 {
     let mut used = 0;
-    for k in 0..bytes.len() / 2 {
-        used = put_pair(buffer, used, decoder, bytes[2 * k], bytes[2 * k + 1]);
+    for byte in bytes {
+        used = put_some(buffer, used, decoder.take_byte(*byte));
     }
     used
 }
 
-/// Puts the characters that a decoder makes of a few bytes, and answers how many bytes they take.
+/// Puts the character that a decoder makes of a unit.
+#[inline(always)]
+fn put_unit(buffer: &mut [u8; ROOM], used: usize, decoder: &mut Utf16, unit: u16) -> usize
+    requires whole { decoder.old.low ≡ None }
+    requires room { used + 6 ≤ ROOM }
+    ensures whole { decoder.new.low ≡ None }
+    ensures count { result ≤ used + 6 }
+    ensures text { (low high : ℕ) → unit ≡ low + 256 * high → (more : List ℕ) → take used buffer.old ++ text_left decoder.old (low ∷ high ∷ more) ≡ take result buffer.new ++ text_left decoder.new more }
+{
+    if decoder.high.is_none() && is_plain(unit) {
+        put(buffer, used, &[unit as u8])
+    } else {
+        put_some(buffer, used, decoder.take_unit(unit))
+    }
+}
+
+/// Puts the characters that a decoder makes of whole units, one by one.
+fn put_each(buffer: &mut [u8; ROOM], decoder: &mut Utf16, bytes: &[u8]) -> usize
+    requires whole { decoder.old.low ≡ None }
+    requires even { length bytes.now % 2 ≡ 0 }
+    requires few { length bytes.now ≤ CHUNK }
+    ensures count { result ≤ ROOM }
+    ensures text { (more : List ℕ) → text_left decoder.old (bytes.now ++ more) ≡ take result buffer.new ++ text_left decoder.new more }
+{
+    let mut used = 0;
+    for k in 0..bytes.len() / 2 {
+        used = put_unit(buffer, used, decoder, unit_at(bytes, k));
+    }
+    used
+}
+
+/// Puts the characters that a decoder makes of a few bytes, at once where each unit stands for itself, and answers how
+/// many bytes they take.
 pub(crate) fn put_few(buffer: &mut [u8; ROOM], decoder: &mut Utf16, bytes: &[u8]) -> usize
     requires { length bytes.now ≤ CHUNK }
     ensures count { result ≤ ROOM }
     ensures text { (more : List ℕ) → text_left decoder.old (bytes.now ++ more) ≡ take result buffer.new ++ text_left decoder.new more }
 {
-    let used = put_pairs(buffer, decoder, bytes);
-    if bytes.len() % 2 == 0 {
-        used
+    if decoder.low.is_some() || bytes.len() % 2 != 0 {
+        put_bytes(buffer, decoder, bytes)
+    } else if decoder.high.is_none() && are_plain(bytes) {
+        put_plain(buffer, bytes)
     } else {
-        put_some(buffer, used, decoder.take_byte(bytes[bytes.len() - 1]))
+        put_each(buffer, decoder, bytes)
     }
-}
-
-/// Puts the characters that a decoder makes of a unit.
-#[inline(always)]
-fn put_unit(buffer: &mut [u8; ROOM], used: usize, decoder: &mut Utf16, unit: u16) -> usize
-    requires { used + 12 ≤ ROOM }
-    ensures count { result ≤ used + 12 }
-    ensures text { (more : List ℕ) → take used buffer.old ++ text_left decoder.old (le16 unit ++ more) ≡ take result buffer.new ++ text_left decoder.new more }
-{
-    let [low, high] = unit.to_le_bytes();
-    put_pair(buffer, used, decoder, low, high)
-}
-
-/// Puts the characters that a decoder makes of a few units, and answers how many bytes they take.
-pub(crate) fn put_few_units(buffer: &mut [u8; ROOM], decoder: &mut Utf16, units: &[u16]) -> usize
-    requires { 2 * length units.now ≤ CHUNK }
-    ensures count { result ≤ ROOM }
-    ensures text { (more : List ℕ) → text_left decoder.old (unit_bytes units.now ++ more) ≡ take result buffer.new ++ text_left decoder.new more }
-{
-    let mut used = 0;
-    for unit in units {
-        used = put_unit(buffer, used, decoder, *unit);
-    }
-    used
 }

@@ -4,8 +4,10 @@
 mod appending;
 mod buffers;
 mod characters;
+mod checking;
 mod digits;
 mod numbers;
+mod plain;
 mod texts;
 mod utf16;
 

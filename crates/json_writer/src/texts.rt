@@ -1,5 +1,5 @@
 //! Texts: strings where their units are well-formed, and else their bytes as digits. [RFC 8259, section 8]
-ghost use Rattle.std.specs.Prelude.{◌≡◌, ◌∷◌, ◌++◌, ◌*◌, ◌/◌, [], ℕ, List, None, OnOk, codes, length, take};
+ghost use Rattle.std.specs.Prelude.{◌≡◌, ◌∷◌, ◌++◌, [], ℕ, List, None, OnOk, codes};
 ghost use Rattle.carrier_model.specs.Bytes.{units_of, unit_bytes};
 ghost use Rattle.serde_json.specs.Data.{object, member, no_members};
 ghost use Rattle.serde_json.specs.Written.{compact_text};
@@ -7,12 +7,14 @@ ghost use Rattle.json_model.specs.Digits.{hex};
 ghost use Rattle.json_model.specs.Properties.{hex_json};
 ghost use Rattle.json_model.specs.Texts.{text_json, name_json};
 ghost use Rattle.json_writer.specs.Counted.{Counts};
-ghost use Rattle.json_writer.specs.Decoded.{text_left, fits_with};
+ghost use Rattle.json_writer.specs.Decoded.{text_left};
 ghost use Rattle.json_writer.specs.Units.{units_text, all_fit};
 
 use crate::appending::append;
-use crate::buffers::{CHUNK, ROOM, put_few, put_few_units};
+use crate::buffers::{CHUNK, ROOM, put_few};
+use crate::checking::{decode_pieces, decode_units};
 use crate::digits::{append_all_pairs, append_pairs};
+use crate::plain::put_units;
 use crate::utf16::Utf16;
 use carrier_io::{Blob, Failed, Sink};
 
@@ -51,53 +53,6 @@ struct BlobText<'b, B: Blob>(&'b B);
 /// 16-bit units.
 #[derive(Drop)]
 struct UnitText<'u>(&'u [u16]);
-
-/// Lets a decoder take two bytes.
-#[inline(always)]
-fn decode_pair(decoder: &mut Utf16, low: u8, high: u8)
-    ensures { (more : List ℕ) → fits_with decoder.old (low ∷ high ∷ more) ≡ fits_with decoder.new more }
-{
-    decoder.take_byte(low);
-    decoder.take_byte(high);
-}
-
-/// Lets a decoder take one piece without an odd byte at the end.
-fn decode_pairs(decoder: &mut Utf16, bytes: &[u8])
-    ensures { (more : List ℕ) → fits_with decoder.old (take (2 * (length bytes.now / 2)) bytes.now ++ more) ≡ fits_with decoder.new more }
-{
-    for k in 0..bytes.len() / 2 {
-        decode_pair(decoder, bytes[2 * k], bytes[2 * k + 1]);
-    }
-}
-
-/// Lets a decoder take one piece.
-fn decode_piece(decoder: &mut Utf16, bytes: &[u8])
-    ensures { (more : List ℕ) → fits_with decoder.old (bytes.now ++ more) ≡ fits_with decoder.new more }
-{
-    decode_pairs(decoder, bytes);
-    if bytes.len() % 2 != 0 {
-        decoder.take_byte(bytes[bytes.len() - 1]);
-    }
-}
-
-/// Lets a decoder take all pieces.
-fn decode_pieces<B: Blob>(decoder: &mut Utf16, text: &B)
-    ensures { fits_with decoder.new [] ≡ fits_with decoder.old (B.bytes text.now) }
-{
-    for k in 0..text.pieces() {
-        decode_piece(decoder, text.piece(k));
-    }
-}
-
-/// Lets a decoder take units.
-fn decode_units(decoder: &mut Utf16, units: &[u16])
-    ensures { fits_with decoder.new [] ≡ fits_with decoder.old (unit_bytes units.now) }
-{
-    for unit in units {
-        let [low, high] = unit.to_le_bytes();
-        decode_pair(decoder, low, high);
-    }
-}
 
 /// Appends the characters that a decoder makes of one piece.
 fn append_piece<W: Sink>(
@@ -145,10 +100,12 @@ fn append_units<W: Sink>(
     ensures { Counts (W.held sink.old) (W.held sink.new) (W.faults sink.old) (W.faults sink.new) count.old count.new result (text_left decoder.old (unit_bytes units.now)) }
 {
     let mut buffer = [0; ROOM];
+    let mut bytes = [0; CHUNK];
     let mut rest = units;
     while !rest.is_empty() {
         let (few, after) = rest.split_at(rest.len().min(CHUNK / 2));
-        let used = put_few_units(&mut buffer, decoder, few);
+        put_units(&mut bytes, few);
+        let used = put_few(&mut buffer, decoder, &bytes[..2 * few.len()]);
         append(sink, count, &buffer[..used])?;
         rest = after;
     }

@@ -1,6 +1,7 @@
 //! UTF-16 that comes byte by byte.
-ghost use Rattle.std.specs.Prelude.{◌≡◌, ◌&&◌, ◌∷◌, ◌++◌, [], ℕ, List, None, true};
+ghost use Rattle.std.specs.Prelude.{◌≡◌, ◌&&◌, ◌∷◌, ◌++◌, [], ℕ, List, IsTrue, None, true};
 ghost use Rattle.std.specs.Char.Utf16.{is_high_surrogate, is_low_surrogate, surrogate_pair_char, lone_unit_char};
+ghost use Rattle.json_writer.specs.Plain.{IsLone};
 ghost use Rattle.json_writer.specs.Units.{character, completed, waiting, fits, character_text};
 
 use std::char;
@@ -30,6 +31,14 @@ fn is_low(unit: u16) -> bool
     ensures { result ≡ is_low_surrogate unit }
 {
     0xdc00 <= unit && unit < 0xe000
+}
+
+/// Whether a unit is none of a pair.
+#[inline(always)]
+pub(crate) fn is_lone(unit: u16) -> bool
+    ensures { IsTrue result → IsLone unit }
+{
+    !is_high(unit) && !is_low(unit)
 }
 
 /// The character of a unit that is in no pair.
@@ -87,7 +96,7 @@ impl Utf16 {
 
     /// Takes a unit, and answers the character that it completes.
     #[inline(always)]
-    fn take_unit(&mut self, unit: u16) -> Option<char>
+    pub(crate) fn take_unit(&mut self, unit: u16) -> Option<char>
         ensures character { result ≡ completed self.old.high unit }
         ensures high { self.new.high ≡ waiting self.old.high unit }
         ensures fits { self.new.fits ≡ self.old.fits && fits self.old.high unit }

@@ -1,13 +1,16 @@
-use Rattle.std.proofs.Common.{◌≡◌, ◌*◌, ◌/◌, ◌%◌, ◌-◌, ◌∙◌, ◌++◌, ◌∷◌, [], List, ℕ, ap, append_assoc, length, take, get_or, arith}
-use Rattle.json_writer.specs.Decoded.{fits_with}
-use Rattle.json_writer.proofs.Lists.{pairs_and_one}
-use Rattle.json_writer.proofs.texts.decode_piece.Goals as goal
+use Rattle.std.proofs.Common.{◌≡◌, ◌∙◌, ◌<◌, ◌≤◌, ◌+◌, ◌*◌, length, take_all, arith}
+use Rattle.std.specs.Prelude.{None}
+use Rattle.json_writer.proofs.Decoding.{fits_more, fits_then, fits_unit}
+use Rattle.json_writer.proofs.Lists.{take_two}
+use Rattle.json_writer.proofs.checking.decode_each.Goals as goal
 
-pub returns-then-bytes-ne0 : goal.returns-then-bytes-ne0
-returns-then-bytes-ne0 c more =
-    let xs = c.args.bytes.now in
-    let odd : length xs % 2 ≡ 1 = omega (arith, c.if-bytes-ne0.true) in
-    let last = get_or xs (length xs - 1) 0 in
-    ap (λ (z : List ℕ). fits_with c.args.decoder.now (z ++ more)) (pairs_and_one xs 0 odd)
-    ∙ ap (fits_with c.args.decoder.now) (append_assoc (take (2 * (length xs / 2)) xs) (last ∷ []) more)
-    ∙ c.decode_pairs.ensures (last ∷ more) ∙ c.take_byte.ensures.fits more
+pub loop-k-preserved : goal.loop-k-preserved
+loop-k-preserved c =
+    let both : 2 * c.loop-k.k + 1 < length c.args.bytes.now = omega (arith, c.loop-k-test.true, c.loop-k.auto.k-end) in
+    let whole : c.take_unit.new.self.low ≡ None = c.take_unit.ensures.low ∙ c.loop-k.invariant.0 in
+    (whole, fits_more _ _ (take_two c.args.bytes.now c.loop-k.k 0 both) c.loop-k.invariant.1 (fits_unit c.loop-k.decoder c.take_unit.new.self _ _ _ c.loop-k.invariant.0 c.unit_at.ensures c.take_unit.ensures.high c.take_unit.ensures.fits whole))
+
+pub returns : goal.returns
+returns c =
+    let all : length c.args.bytes.now ≤ 2 * c.loop-k.k = omega (arith, c.loop-k-test.false, c.loop-k.auto.k-end, c.requires.even) in
+    fits_then (take_all (2 * c.loop-k.k) c.args.bytes.now all) c.loop-k.invariant.1

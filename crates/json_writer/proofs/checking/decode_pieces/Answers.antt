@@ -1,7 +1,7 @@
 use Rattle.std.proofs.Common.{◌≡◌, ◌∙◌, ap, add-one, arith}
 use Rattle.carrier_io.specs.Pieces.{joined}
 use Rattle.json_writer.proofs.Decoding.{fits_more, fits_all}
-use Rattle.json_writer.proofs.texts.decode_pieces.Goals as goal
+use Rattle.json_writer.proofs.checking.decode_pieces.Goals as goal
 
 pub loop-k-preserved : goal.loop-k-preserved
 loop-k-preserved g c =

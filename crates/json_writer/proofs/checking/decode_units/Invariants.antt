@@ -1,7 +1,10 @@
-use Rattle.std.proofs.Common.{take}
+use Rattle.std.proofs.Common.{length}
 use Rattle.carrier_model.specs.Bytes.{unit_bytes}
-use Rattle.json_writer.proofs.Decoding.{Fits}
-use Rattle.json_writer.proofs.texts.decode_units.Given as goal
+use Rattle.json_writer.proofs.Decoding.{FitsTo}
+use Rattle.json_writer.proofs.checking.decode_units.Given as goal
 
-abbrev pub invariant-loop-unit : goal.invariant-loop-unit
-invariant-loop-unit l = Fits l.initial.decoder l.decoder (unit_bytes (take l.unit-index l.units))
+abbrev pub invariant-loop-rest : goal.invariant-loop-rest
+invariant-loop-rest l = FitsTo l.initial.decoder l.decoder (unit_bytes l.units) (unit_bytes l.rest)
+
+abbrev pub decreases-loop-rest : goal.decreases-loop-rest
+decreases-loop-rest l = length l.rest
