@@ -1,5 +1,5 @@
 -- Texts of lists, element by element.
-use Rattle.std.proofs.Common.{ℕ, zero, suc, ◌+◌, ◌-◌, ◌*◌, ◌/◌, ◌%◌, ◌<◌, ◌≤◌, ◌≡◌, List, [], ◌∷◌, ◌++◌, length, get_or, take, drop, ap, sym, ◌∙◌, append_assoc, inl, inr, arith}
+use Rattle.std.proofs.Common.{ℕ, zero, suc, ◌+◌, ◌-◌, ◌*◌, ◌/◌, ◌%◌, ◌<◌, ◌≤◌, ◌≡◌, List, [], ◌∷◌, ◌++◌, length, get_or, take, drop, ap, sym, ◌∙◌, append_assoc, inl, inr, refl, arith}
 use Rattle.std.specs.List.{flat_map}
 use Rattle.std.proofs.lemmas.Bool.{cases_lt}
 use Rattle.std.proofs.lemmas.List.{append-nil, drop_more, take_all, take_more, take-append-drop}
@@ -25,6 +25,20 @@ split_parts n xs few after f a = rw (f, a) (sym (take-append-drop n xs))
 
 pub item_parts : {X : Type 0} (f : X → List ℕ) (n : ℕ) (xs few after : List X) → few ≡ take n xs → after ≡ drop n xs → flat_map f xs ≡ flat_map f few ++ flat_map f after
 item_parts f n xs few after e a = ap (flat_map f) (split_parts n xs few after e a) ∙ flat_map-append f few after
+
+-- all elements of a list of two, and of three
+pub two_of : {X : Type 0} (xs : List X) (d : X) → 2 ≤ length xs → length xs < 3 → get_or xs 0 d ∷ get_or xs 1 d ∷ [] ≡ xs
+two_of [] d least most = absurd (omega (arith, least))
+two_of (a ∷ []) d least most = absurd (omega (arith, least))
+two_of (a ∷ b ∷ []) d least most = refl
+two_of (a ∷ b ∷ c ∷ more) d least most = absurd (omega (arith, most))
+
+pub three_of : {X : Type 0} (xs : List X) (d : X) → 3 ≤ length xs → length xs < 4 → get_or xs 0 d ∷ get_or xs 1 d ∷ get_or xs 2 d ∷ [] ≡ xs
+three_of [] d least most = absurd (omega (arith, least))
+three_of (a ∷ []) d least most = absurd (omega (arith, least))
+three_of (a ∷ b ∷ []) d least most = absurd (omega (arith, least))
+three_of (a ∷ b ∷ c ∷ []) d least most = refl
+three_of (a ∷ b ∷ c ∷ e ∷ more) d least most = absurd (omega (arith, most))
 
 -- two elements more
 pub take_two : {X : Type 0} (xs : List X) (k : ℕ) (d : X) → 2 * k + 1 < length xs → take (2 * (k + 1)) xs ≡ take (2 * k) xs ++ (get_or xs (2 * k) d ∷ get_or xs (2 * k + 1) d ∷ [])

@@ -62,7 +62,11 @@ fn put_wide(buffer: &mut [u8; ROOM], used: usize, character: char) -> usize
     ensures text { take result buffer.new ≡ take used buffer.old ++ escape (encode_utf8 character) }
 {
     let mut bytes = [0; 4];
-    put(buffer, used, character.encode_utf8(&mut bytes).as_bytes())
+    match character.encode_utf8(&mut bytes).as_bytes() {
+        [one, two] => put(buffer, used, &[*one, *two]),
+        [one, two, three] => put(buffer, used, &[*one, *two, *three]),
+        all => put(buffer, used, all),
+    }
 }
 
 /// Puts a character of a string, in UTF-8.
