@@ -1,6 +1,8 @@
+mod Beside
 mod Cuts
-mod KeyWords
 mod EditSteps
+mod KeyWords
 mod Numerals
+mod Said
 mod StepWords
 mod VerbWords

@@ -25,7 +25,7 @@ no_edit verb (place ∷ key ∷ kind ∷ []) h = rw h.remove refl
 no_edit verb (place ∷ key ∷ kind ∷ value ∷ []) h = rw h.set refl
 no_edit verb (place ∷ key ∷ kind ∷ value ∷ more ∷ others) h = refl
 
-other_count : (verb : Verb) (words : List (List ℕ)) → (length words ≡ words_behind (word_of verb) → ⊥) → edit_of (word_of verb) words ≡ None
+pub other_count : (verb : Verb) (words : List (List ℕ)) → (length words ≡ words_behind (word_of verb) → ⊥) → edit_of (word_of verb) words ≡ None
 other_count verb [] other = refl
 other_count verbs.Set (message ∷ []) other = refl
 other_count verbs.Remove (message ∷ []) other = refl

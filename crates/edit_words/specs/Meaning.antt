@@ -1,8 +1,11 @@
--- What edits mean.
-use Rattle.std.specs.Prelude.{ℕ, List, map, String, string_bytes}
+-- What edits mean, and the edits that stand in a list of words.
+use Rattle.std.specs.Prelude.{◌≡◌, ℕ, List, [], ◌∷◌, map, take, drop, Option, Some, None, String, string_bytes}
+use Rattle.std.specs.List.{AllByRecursion, filter_map}
 use Rattle.std.specs.declared.alloc.Global.{Global}
 use Rattle.edit_model.specs.Edits as plain
 use Rattle.edit_model.specs.Edits.{itself, recipient, attachment, set_prop, remove_prop, add_recipient, drop_recipient, drop_attachment}
+use Rattle.edit_model.specs.EditWords as words
+use Rattle.edit_model.specs.EditWords.{words_behind}
 use Rattle.prop_names.specs.Meaning.{key_of}
 use Rattle.prop_values.specs.Kinds.{kind_number}
 use Rattle.edit_words.specs.declared.edits.Edit.{Edit}
@@ -10,6 +13,7 @@ use Rattle.edit_words.specs.declared.edits.Edit.TheVariants as one
 use Rattle.edit_words.specs.declared.edits.Place.{Place}
 use Rattle.edit_words.specs.declared.edits.Spot.{Spot}
 use Rattle.edit_words.specs.declared.edits.Spot.TheVariants as spots
+use Rattle.edit_words.specs.Reading.{IsShort}
 
 -- words, as bytes
 abbrev pub texts : List (String Global) → List (List ℕ)
@@ -29,3 +33,21 @@ edit_of (one.RemoveProp place key kind) = remove_prop (place_of place) (key_of k
 edit_of (one.AddRecipient path) = add_recipient path
 edit_of (one.DropRecipient path k) = drop_recipient path k
 edit_of (one.DropAttachment path k) = drop_attachment path k
+
+-- the edit of a first word and as many of the others as stand behind it
+abbrev pub said_by : List (List ℕ) → Option plain.Edit
+said_by [] = None
+said_by (verb ∷ others) = words.edit_of verb (take (words_behind verb) others)
+
+-- the edit that begins at a word
+abbrev pub said_at : List (List ℕ) → ℕ → Option plain.Edit
+said_at list at = said_by (drop at list)
+
+-- the edits that begin at these words
+abbrev pub said : List (List ℕ) → List ℕ → List plain.Edit
+said list starts = filter_map (said_at list) starts
+
+-- an edit begins at each of these words, and no word is longer than a word may be
+pub record SayEdits (list : List (List ℕ)) (starts : List ℕ) : Type 0 where
+  pub each : map Some (said list starts) ≡ map (said_at list) starts
+  pub short : AllByRecursion IsShort list

@@ -1,11 +1,13 @@
 //! The words that are edits.
-ghost use Rattle.std.specs.Prelude.{◌≡◌, ◌≤◌, IfOk, codes, length};
+ghost use Rattle.std.specs.Prelude.{◌≡◌, ◌≤◌, ◌<◌, ◌+◌, IfOk, IsTrue, Some, codes, drop, length, take};
 ghost use Rattle.std.specs.List.{AllByRecursion};
 ghost use Rattle.std.specs.Option.{option_map};
 ghost use Rattle.edit_words.specs.Reading.{IsShort};
 ghost use Rattle.edit_model.specs.EditWords as plain;
-ghost use Rattle.edit_model.specs.EditWords.{MOST_WORD_BYTES, set_of, remove_of, drop_of};
-ghost use Rattle.edit_words.specs.Meaning.{edit_of, texts};
+ghost use Rattle.edit_model.specs.Edits.{Edit as PlainEdit};
+ghost use Rattle.edit_model.specs.EditWords.{MOST_WORD_BYTES, set_of, remove_of, drop_of, words_behind};
+ghost use Rattle.edit_words.specs.Meaning.{edit_of, said_at, texts};
+ghost use Rattle.edit_words.specs.Parts.{AreBeside};
 ghost use Rattle.edit_words.specs.Verbs.{word_of, recipient_dropped, attachment_dropped};
 
 use crate::decimals::read_place_number;
@@ -14,7 +16,7 @@ use crate::edits::Edit;
 use crate::keys::{read_key, read_kind};
 use crate::places::{read_message, read_place};
 use crate::values::read_value;
-use crate::verbs::{Verb, verb_of};
+use crate::verbs::{Verb, are_alike, verb_of};
 use carrier_io::{NoMemory, Numbers};
 use prop_values::Prop;
 use std::alloc::Global;
@@ -119,6 +121,36 @@ fn read_edit(alloc: Global, verb: Verb, words: &[String]) -> Result<Option<Edit>
     }
 }
 
+/// The words that stand behind a verb, as many as its edits have or as there are.
+fn own_words(words: &[String], at: usize, verb: Verb) -> &[String]
+    requires { at < length words.now }
+    ensures { texts result.now ≡ take (words_behind (word_of verb)) (drop (at + 1) (texts words.now)) }
+{
+    let others = &words[at + 1..];
+    &others[..verb.words_behind().min(others.len())]
+}
+
+/// The edit that begins at a word. NoMemory says that memory ran out.
+pub(crate) fn read_at(alloc: Global, words: &[String], at: usize) -> Result<Option<Edit>, NoMemory>
+    requires place { at < length words.now }
+    requires short { AllByRecursion IsShort (texts words.now) }
+    ensures { IfOk result (λ r. option_map edit_of r ≡ said_at (texts words.now) at) }
+{
+    match verb_of(words[at].as_str()) {
+        Some(verb) => read_edit(alloc, verb, own_words(words, at, verb)),
+        None => Ok(None),
+    }
+}
+
+/// Whether the edits that begin at two words are seen to change the same part of the same message.
+pub(crate) fn are_beside(words: &[String], one: usize, other: usize) -> bool
+    requires { (one + 1 < length words.now) × (other + 1 < length words.now) }
+    ensures { IsTrue result → (e f : PlainEdit) → said_at (texts words.now) one ≡ Some e → said_at (texts words.now) other ≡ Some f → AreBeside e f }
+{
+    are_alike(words[one].as_str(), words[other].as_str())
+        && words[one + 1].as_str() == words[other + 1].as_str()
+}
+
 /// Whether no word is longer than a word may be.
 fn are_short(words: &[String]) -> bool
     ensures { result ≡ plain.are_short (texts words.now) }
@@ -131,26 +163,30 @@ fn are_short(words: &[String]) -> bool
     true
 }
 
-/// The edits that the words are, one or more. None where they are no edits. NoMemory says that memory ran out.
-pub fn read_edits(alloc: Global, words: &[String]) -> Result<Option<Edits>, NoMemory>
+/// The edits that the words are, one or more. None where they are no edits. NoMemory says that memory ran out, or that there
+/// are more words than a number of 32 bits tells.
+pub fn read_edits(alloc: Global, words: &[String]) -> Result<Option<Edits<'_>>, NoMemory>
     ensures { IfOk result (λ r. r ≡ plain.edits_of (texts words.now)) }
 {
     if words.is_empty() || !are_short(words) {
         return Ok(None);
     }
-    let mut edits = Edits::new(alloc);
+    let mut starts = Vec::new(alloc);
     let mut at = 0;
     while at < words.len() {
         let Some(verb) = verb_of(words[at].as_str()) else {
             return Ok(None);
         };
-        let others = &words[at + 1..];
-        let own = &others[..verb.words_behind().min(others.len())];
+        let own = own_words(words, at, verb);
         match read_edit(alloc, verb, own)? {
-            Some(edit) => edits.push(edit)?,
+            Some(edit) => drop(edit),
             None => return Ok(None),
         }
+        let Ok(start) = u32::try_from(at) else {
+            return Err(NoMemory);
+        };
+        starts.push(start)?;
         at = at + 1 + own.len();
     }
-    Ok(Some(edits))
+    Ok(Some(Edits::new(words, starts)))
 }

@@ -62,7 +62,7 @@ fn write_unicode<B: Blob, O: Sink>(alloc: Global, tree: Tree<B>, output: &mut O)
 /// Writes the file of the message that edits make. The one before them is gone by then.
 fn write_edited<B: Blob, O: Sink>(
     alloc: Global,
-    edits: &Edits,
+    edits: &Edits<'_>,
     tree: Tree<B>,
     output: &mut O,
 ) -> Status
@@ -98,7 +98,7 @@ pub fn unicode_bytes<O: Sink>(alloc: Global, bytes: &[u8], output: &mut O) -> St
 }
 
 /// Writes the .msg file of the message that edits make of the one that bytes mean.
-pub fn edit_bytes<O: Sink>(alloc: Global, edits: &Edits, bytes: &[u8], output: &mut O) -> Status
+pub fn edit_bytes<O: Sink>(alloc: Global, edits: &Edits<'_>, bytes: &[u8], output: &mut O) -> Status
     requires { length bytes.now ≤ MOST_BYTES }
     ensures told { TellsChange (plain_edited edits.now) bytes.now (O.held output.old) (O.held output.new) result }
     ensures nothing { WritesNothing result output.old output.new }

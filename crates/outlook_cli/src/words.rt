@@ -14,7 +14,7 @@ const GREATEST_SAMPLE: u32 = 5000;
 
 /// What words ask for.
 #[derive(Drop)]
-pub enum Command {
+pub enum Command<'a> {
     /// Every property of every message, as lines.
     Show,
     /// How much there is, and what was passed over.
@@ -28,13 +28,13 @@ pub enum Command {
     /// The .msg file of the message that a JSON text means.
     FromJson,
     /// The .msg file of the message that edits make.
-    Edit(Edits),
+    Edit(Edits<'a>),
     /// The totals, lengths and sums of the message that is made from a number, at most 5000.
     Sample(u32),
 }
 
 /// The command of one word.
-fn command_named(word: &str) -> Option<Command>
+fn command_named(word: &str) -> Option<Command<'static>>
     ensures seen { option_map command_seen result ≡ command_among words_of_one word.now }
     ensures sample { IfSome result IsSample }
 {
@@ -72,7 +72,7 @@ fn command_named(word: &str) -> Option<Command>
 }
 
 /// The sample of a number of one to four digits, with no zero before other digits.
-fn sample_numbered(word: &str) -> Option<Command>
+fn sample_numbered(word: &str) -> Option<Command<'static>>
     ensures seen { option_map command_seen result ≡ sample_of word.now }
     ensures sample { IfSome result IsSample }
 {
@@ -96,7 +96,7 @@ fn sample_numbered(word: &str) -> Option<Command>
 }
 
 /// The command of a word with these behind it, where they are no edits.
-fn other_command(word: &str, rest: &[String]) -> Option<Command>
+fn other_command(word: &str, rest: &[String]) -> Option<Command<'static>>
     ensures seen { option_map command_seen result ≡ other_of word.now (texts rest.now) }
     ensures sample { IfSome result IsSample }
 {
@@ -114,7 +114,7 @@ fn other_command(word: &str, rest: &[String]) -> Option<Command>
 }
 
 /// The command of edits.
-fn edit_command(alloc: Global, words: &[String]) -> Result<Option<Command>, NoMemory>
+fn edit_command(alloc: Global, words: &[String]) -> Result<Option<Command<'_>>, NoMemory>
     ensures seen { IfOk result (λ command. option_map command_seen command ≡ edit_of (texts words.now)) }
     ensures sample { IfOk result (λ command. IfSome command IsSample) }
 {
@@ -124,8 +124,8 @@ fn edit_command(alloc: Global, words: &[String]) -> Result<Option<Command>, NoMe
     }
 }
 
-/// The command that the words are. Edits are kept, which takes memory.
-pub fn job_of(alloc: Global, words: &[String]) -> Result<Option<Command>, NoMemory>
+/// The command that the words are. Where edits begin is kept, which takes memory.
+pub fn job_of(alloc: Global, words: &[String]) -> Result<Option<Command<'_>>, NoMemory>
     ensures seen { IfOk result (λ command. option_map command_seen command ≡ command_of (texts words.now)) }
     ensures sample { IfOk result (λ command. IfSome command IsSample) }
 {

@@ -1,18 +1,20 @@
 -- Edits in a row that change one part of a message, done together.
-use Rattle.std.proofs.Common.{◌≡◌, ℕ, zero, suc, ◌+◌, ◌-◌, ◌≤◌, ◌<◌, length, List, [], ◌∷◌, ◌++◌, take, drop, map, get_or, refl, ap, sym, subst, ◌∙◌, arith}
+use Rattle.std.proofs.Common.{◌≡◌, ℕ, zero, suc, ◌+◌, ◌-◌, ◌≤◌, ◌<◌, length, List, [], ◌∷◌, ◌++◌, take, drop, refl, ap, sym, subst, ◌∙◌, arith}
 use Rattle.std.specs.Prelude.{Result, Ok, Err, Option, Some, None, slice_get, slice_set}
 use Rattle.std.specs.List.{AllByRecursion}
-use Rattle.std.proofs.lemmas.List.{set-set, take-append-drop, drop-drop, length-take-le, length-drop, length-map, get_or-map, take_more}
+use Rattle.std.proofs.lemmas.List.{set-set, take-append-drop, take-take, drop-take, drop-drop, length-take-le, length-drop}
 use Rattle.carrier_model.specs.Tree.{Message, message, nothing, embedded, stored, Attached, attachments_from, listed, depth}
 use Rattle.carrier_model.specs.Values.{Prop}
+use Rattle.carrier_model.proofs.Messages.{taken_at}
 use Rattle.carrier_model.proofs.Trees.{drop_at, listed-from}
 use Rattle.edit_model.specs.Edits.{Spot, itself, recipient, attachment, Edit, set_prop, remove_prop, add_recipient, drop_recipient, drop_attachment, Why, there, changed_at, with_recipients, with_attachments, with_props, at_spot, body_with, with_body, at_path, edited_once, edited_from, Makes, ◌>>=◌}
+use Rattle.edit_model.proofs.Kept.{all_drop}
 use Rattle.edit_model.proofs.KeptTrees.{once_depth}
+use Rattle.edit_model.proofs.WordsFit.{all_front}
 use Rattle.msg_tree.specs.Keeping.{HasStores}
-use Rattle.edit_words.specs.Meaning.{edit_of}
 use Rattle.edit_words.specs.Parts.{Part, properties, recipients, attachments, path_of, part_of}
-use Rattle.edit_words.specs.declared.edits.Edit as declared
-use Rattle.tree_edit.specs.Changes.{on_props, on_recipients, on_attachments, in_turn, on_part, IsOf}
+use Rattle.tree_edit.specs.Changes.{on_props, on_recipients, on_attachments, in_turn, on_part, IsOf, ChangeOnePart}
+use Rattle.tree_edit.proofs.Once.{some_edit}
 use Rattle.tree_edit.proofs.Steps.{changed_ok}
 use Rattle.tree_edit.proofs.Stores.{once_stores}
 
@@ -115,11 +117,10 @@ turn_more on e (g ∷ es) f x y z one two =
     let (m, first, rest) = step_of (on e x) (in_turn on g es) y one in
     rw first (turn_more on g es f m y z rest two)
 
-pub turn_next : {A : Type 0} (on : Edit → A → Result A Why) (e : Edit) (xs : List declared.Edit) (k : ℕ) (f : declared.Edit) (x y z : A) → k < length xs → f ≡ get_or xs k f → in_turn on e (take k (map edit_of xs)) x ≡ Ok y → on (edit_of f) y ≡ Ok z → in_turn on e (take (k + 1) (map edit_of xs)) x ≡ Ok z
-turn_next on e xs k f x y z lt is one two =
-    let here : get_or (map edit_of xs) k (edit_of f) ≡ edit_of f = get_or-map edit_of xs k f (edit_of f) lt ∙ ap edit_of (sym is) in
-    let more : take (k + 1) (map edit_of xs) ≡ take k (map edit_of xs) ++ edit_of f ∷ [] = take_more (map edit_of xs) k (edit_of f) (omega (arith, lt, length-map xs edit_of)) ∙ ap (λ g. take k (map edit_of xs) ++ g ∷ []) here in
-    ap (λ l. in_turn on e l x) more ∙ turn_more on e (take k (map edit_of xs)) (edit_of f) x y z one two
+pub turn_next : {A : Type 0} (on : Edit → A → Result A Why) (e : Edit) (es : List Edit) (k : ℕ) (f : Edit) (x y z : A) → slice_get es k ≡ Some f → in_turn on e (take k es) x ≡ Ok y → on f y ≡ Ok z → in_turn on e (take (k + 1) es) x ≡ Ok z
+turn_next on e es k f x y z at one two = ap (λ l. in_turn on e l x) (taken_at es k f at) ∙ turn_more on e (take k es) f x y z one two
+
+-- ---- edits in a row
 
 one_more : {A : Type 0} (P : A → Type 0) (ys : List A) (m : ℕ) (x : A) (zs : List A) → drop m ys ≡ x ∷ zs → P x → AllByRecursion P (take m ys) → AllByRecursion P (take (suc m) ys)
 one_more P [] zero x zs e p h = absurd cc
@@ -134,15 +135,38 @@ all_more P es from k x le at p h =
     let here : drop (k - from) (drop from es) ≡ x ∷ drop (k + 1) es = drop-drop (k - from) from es ∙ (ap (λ n. drop n es) whole ∙ drop_at es k x at) in
     subst (λ n. AllByRecursion P (take n (drop from es))) more (one_more P (drop from es) (k - from) x (drop (k + 1) es) here p h)
 
-but_first : {A : Type 0} (P : A → Type 0) (ys : List A) (m : ℕ) → AllByRecursion P (take (suc m) ys) → AllByRecursion P (take m (drop 1 ys))
-but_first P [] zero h = tt
-but_first P [] (suc m) h = tt
-but_first P (y ∷ ys) m h = h.1
+pub one_alone : {A : Type 0} (P : A → Type 0) (es : List A) (at : ℕ) (x : A) → slice_get es at ≡ Some x → P x → AllByRecursion P (take (at + 1 - at) (drop at es))
+one_alone P es at x here p = let one : at + 1 - at ≡ 1 = omega arith in rw (one, drop_at es at x here) (p, tt)
 
-pub all_behind : {A : Type 0} (P : A → Type 0) (es : List A) (from to : ℕ) → from + 1 ≤ to → AllByRecursion P (take (to - from) (drop from es)) → AllByRecursion P (take (to - (from + 1)) (drop (from + 1) es))
-all_behind P es from to le h =
-    let one : to - from ≡ suc (to - (from + 1)) = omega (arith, le) in
-    subst (λ l. AllByRecursion P (take (to - (from + 1)) l)) (drop-drop 1 from es) (but_first P (drop from es) (to - (from + 1)) (subst (λ n. AllByRecursion P (take n (drop from es))) one h))
+-- what is said of the first edit, wherever it leads
+pub run_is : (es : List Edit) (at n : ℕ) → at < length es → ((e : Edit) → slice_get es at ≡ Some e → AllByRecursion (IsOf (path_of e) (part_of e)) (take n (drop at es))) → ChangeOnePart (take n (drop at es))
+run_is es at n lt all =
+    let (e, here) = some_edit es at lt in
+    record { path = path_of e; part = part_of e; each = all e here }
+
+-- the others lead where the first does
+one_part : (e : Edit) (es : List Edit) → ChangeOnePart (e ∷ es) → AllByRecursion (IsOf (path_of e) (part_of e)) es
+one_part e es run =
+    subst (λ p. AllByRecursion (IsOf p (part_of e)) es) (sym run.each.0.0) (subst (λ q. AllByRecursion (IsOf run.path q) es) (sym run.each.0.1) run.each.1)
+
+pub run_all : (es run : List Edit) (at end : ℕ) (e : Edit) → slice_get es at ≡ Some e → ChangeOnePart (take (end - at) (drop at es)) → at + 1 + length run ≤ end → run ≡ take (length run) (drop (at + 1) es) → AllByRecursion (IsOf (path_of e) (part_of e)) run
+run_all es run at end e here one within is =
+    let P = IsOf (path_of e) (part_of e) in
+    let n = end - (at + 1) in
+    let X = drop (at + 1) es in
+    let more : end - at ≡ suc n = omega (arith, within) in
+    let fits : length run ≤ n = omega (arith, within) in
+    let whole : take (end - at) (drop at es) ≡ e ∷ take n X = ap (take (end - at)) (drop_at es at e here) ∙ ap (λ m. take m (e ∷ X)) more in
+    let all : AllByRecursion P (take n X) = one_part e (take n X) (subst ChangeOnePart whole one) in
+    subst (AllByRecursion P) (take-take (length run) n X fits ∙ sym is) (all_front P (length run) (take n X) all)
+
+-- what is left of a run behind some of it
+pub run_left : (es : List Edit) (at n end : ℕ) → at + n ≤ end → ChangeOnePart (take (end - at) (drop at es)) → ChangeOnePart (take (end - (at + n)) (drop (at + n) es))
+run_left es at n end within run =
+    let m = end - (at + n) in
+    let whole : end - at ≡ n + m = omega (arith, within) in
+    let left : drop n (take (end - at) (drop at es)) ≡ take m (drop (at + n) es) = ap (λ k. drop n (take k (drop at es))) whole ∙ (drop-take n m (drop at es) ∙ ap (take m) (drop-drop n at es)) in
+    record { path = run.path; part = run.part; each = subst (AllByRecursion (IsOf run.path run.part)) left (all_drop (IsOf run.path run.part) n (take (end - at) (drop at es)) run.each) }
 
 -- ---- a list of edits, some of which are made
 

@@ -1,5 +1,6 @@
 -- What edits do to one message, one after another.
 use Rattle.std.specs.Prelude.{◌≡◌, ℕ, List, [], ◌∷◌, ◌++◌, Result, Ok, Err}
+use Rattle.std.specs.List.{AllByRecursion}
 use Rattle.carrier_model.specs.Tree.{Message, Attached}
 use Rattle.carrier_model.specs.Values.{Prop}
 use Rattle.edit_model.specs.Edits.{Edit, set_prop, remove_prop, add_recipient, drop_recipient, drop_attachment, Why, with_prop, without_prop, with_recipients, with_attachments, dropped_at, at_spot, ◌>>=◌}
@@ -44,6 +45,12 @@ on_part attachments e es = with_attachments (in_turn on_attachments e es)
 -- the edit changes the part of the message at the end of the path
 abbrev pub IsOf : List ℕ → Part → Edit → Type 0
 IsOf path part e = (path_of e ≡ path) × (part_of e ≡ part)
+
+-- the edits change one part of one message
+pub record ChangeOnePart (es : List Edit) : Type 0 where
+  pub path : List ℕ
+  pub part : Part
+  pub each : AllByRecursion (IsOf path part) es
 
 -- why there is no result; or there was no memory
 abbrev pub IsCauseOf : {A : Type 0} → Result A Why → OnceEnd → Type 0

@@ -1,5 +1,5 @@
 //! Edits of a list of attachments.
-ghost use Rattle.std.specs.Prelude.{◌≡◌, ◌≤◌, length, map, take, IfOk, IfErr, Ok};
+ghost use Rattle.std.specs.Prelude.{◌≡◌, ◌≤◌, length, take, IfOk, IfErr, Ok};
 ghost use Rattle.edit_words.specs.Meaning.{edit_of};
 ghost use Rattle.msg_tree.specs.Meaning.{list_of};
 ghost use Rattle.tree_edit.specs.Changes.{IsCauseOf, in_turn, on_attachments};
@@ -9,12 +9,12 @@ use crate::editable::{Editable, edit_in_turn};
 use crate::editing::{OnceEnd, empty, place_in};
 use crate::ends::EditWhy;
 use carrier_io::NoMemory;
-use edit_words::Edit;
+use edit_words::{Edit, EditRun};
 use msg_tree::{Attachment, Attachments};
 use std::alloc::Global;
 
 impl Editable for Attachments<Vec<u8>> {
-    ghost use Rattle.std.specs.Prelude.{List};
+    ghost use Rattle.std.specs.Prelude.{List, map};
     ghost use Rattle.carrier_model.specs.Tree.{Attached};
     ghost use Rattle.msg_tree.specs.Meaning.{attached_of};
     ghost use Rattle.tree_edit.specs.ChunkedLists.{listed};
@@ -34,9 +34,9 @@ impl Editable for Attachments<Vec<u8>> {
 
     ghost WHY = { whys.NoPlace };
 
-    fn edit(&mut self, _: Global, edit: &Edit) -> Result<bool, NoMemory> {
+    fn edit(&mut self, _: Global, edit: Edit) -> Result<bool, NoMemory> {
         match edit {
-            Edit::DropAttachment { number, .. } => match place_in(*number, self.len()) {
+            Edit::DropAttachment { number, .. } => match place_in(number, self.len()) {
                 Ok(k) => {
                     drop(self.remove(k));
                     Ok(true)
@@ -55,9 +55,9 @@ impl Editable for Attachments<Vec<u8>> {
         Ok(chunks)
     }
 
-    fn edit_form(form: &mut Self::Form, _: Global, edit: &Edit) -> Result<bool, NoMemory> {
+    fn edit_form(form: &mut Self::Form, _: Global, edit: Edit) -> Result<bool, NoMemory> {
         match edit {
-            Edit::DropAttachment { number, .. } => Ok(form.remove(*number).is_some()),
+            Edit::DropAttachment { number, .. } => Ok(form.remove(number).is_some()),
             _ => Ok(true),
         }
     }
@@ -76,12 +76,12 @@ impl Editable for Attachments<Vec<u8>> {
 pub fn edit_attachments(
     alloc: Global,
     attachments: &mut Attachments<Vec<u8>>,
-    edit: &Edit,
-    behind: &[Edit],
+    edit: Edit,
+    behind: &EditRun<'_>,
 ) -> Result<usize, OnceEnd>
     ensures count { IfOk result (λ n. n ≤ length behind.now) }
-    ensures ok { IfOk result (λ n. in_turn on_attachments (edit_of edit.now) (take n (map edit_of behind.now)) (list_of (λ v. v.items) attachments.old) ≡ Ok (list_of (λ v. v.items) attachments.new)) }
-    ensures err { IfErr result (IsCauseOf (on_attachments (edit_of edit.now) (list_of (λ v. v.items) attachments.old))) }
+    ensures ok { IfOk result (λ n. in_turn on_attachments (edit_of edit) (take n behind.now) (list_of (λ v. v.items) attachments.old) ≡ Ok (list_of (λ v. v.items) attachments.new)) }
+    ensures err { IfErr result (IsCauseOf (on_attachments (edit_of edit) (list_of (λ v. v.items) attachments.old))) }
 {
     edit_in_turn(alloc, attachments, edit, behind)
 }

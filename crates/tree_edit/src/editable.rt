@@ -1,12 +1,12 @@
 //! Edits of one list, done one after another.
-ghost use Rattle.std.specs.Prelude.{◌≤◌, ◌≡◌, length, map, take, IfOk, IfErr, Ok};
+ghost use Rattle.std.specs.Prelude.{◌≤◌, ◌≡◌, length, take, IfOk, IfErr, Ok};
 ghost use Rattle.edit_words.specs.Meaning.{edit_of};
 ghost use Rattle.tree_edit.specs.Changes.{IsCauseOf, in_turn};
 
 use crate::editing::OnceEnd;
 use crate::ends::EditWhy;
 use carrier_io::NoMemory;
-use edit_words::Edit;
+use edit_words::{Edit, EditRun};
 use std::alloc::Global;
 
 /// A list that edits change.
@@ -36,18 +36,18 @@ pub trait Editable {
     ghost WHY: { EditWhy };
 
     /// Does an edit. It answers whether it could be done.
-    fn edit(&mut self, alloc: Global, edit: &Edit) -> Result<bool, NoMemory>
-        ensures done { IfOk result (λ done. done ≡ true → edited (edit_of edit.now) (plain self.old) ≡ Ok (plain self.new)) }
-        ensures absent { IfOk result (λ done. done ≡ false → edited (edit_of edit.now) (plain self.old) ≡ Err (why_of WHY)) };
+    fn edit(&mut self, alloc: Global, edit: Edit) -> Result<bool, NoMemory>
+        ensures done { IfOk result (λ done. done ≡ true → edited (edit_of edit) (plain self.old) ≡ Ok (plain self.new)) }
+        ensures absent { IfOk result (λ done. done ≡ false → edited (edit_of edit) (plain self.old) ≡ Err (why_of WHY)) };
 
     /// Moves the elements into the form.
     fn take_form(&mut self, alloc: Global) -> Result<Self::Form, NoMemory>
         ensures { IfOk result (λ form. held form ≡ plain self.old) };
 
     /// Does an edit in the form. It answers whether it could be done.
-    fn edit_form(form: &mut Self::Form, alloc: Global, edit: &Edit) -> Result<bool, NoMemory>
-        ensures done { IfOk result (λ done. done ≡ true → edited (edit_of edit.now) (held form.old) ≡ Ok (held form.new)) }
-        ensures absent { IfOk result (λ done. done ≡ false → (edited (edit_of edit.now) (held form.old) ≡ Err (why_of WHY)) × (held form.new ≡ held form.old)) };
+    fn edit_form(form: &mut Self::Form, alloc: Global, edit: Edit) -> Result<bool, NoMemory>
+        ensures done { IfOk result (λ done. done ≡ true → edited (edit_of edit) (held form.old) ≡ Ok (held form.new)) }
+        ensures absent { IfOk result (λ done. done ≡ false → (edited (edit_of edit) (held form.old) ≡ Err (why_of WHY)) × (held form.new ≡ held form.old)) };
 
     /// Moves the elements of a form into the list, in place of its own.
     fn put_form(&mut self, alloc: Global, form: Self::Form) -> Result<(), NoMemory>
@@ -58,24 +58,23 @@ pub trait Editable {
 fn edit_form_in_turn<L: Editable>(
     alloc: Global,
     form: &mut L::Form,
-    edit: &Edit,
-    behind: &[Edit],
+    edit: Edit,
+    behind: &EditRun<'_>,
 ) -> Result<usize, OnceEnd>
     ensures count { IfOk result (λ n. n ≤ length behind.now) }
-    ensures ok { IfOk result (λ n. in_turn L.edited (edit_of edit.now) (take n (map edit_of behind.now)) (L.held form.old) ≡ Ok (L.held form.new)) }
-    ensures err { IfErr result (IsCauseOf (L.edited (edit_of edit.now) (L.held form.old))) }
+    ensures ok { IfOk result (λ n. in_turn L.edited (edit_of edit) (take n behind.now) (L.held form.old) ≡ Ok (L.held form.new)) }
+    ensures err { IfErr result (IsCauseOf (L.edited (edit_of edit) (L.held form.old))) }
 {
     if !L::edit_form(form, alloc, edit)? {
         return Err(OnceEnd::Cannot(L::WHY));
     }
-    let mut count = 0;
-    for next in behind {
+    for k in 0..behind.len() {
+        let next = behind.read(alloc, k)?;
         if !L::edit_form(form, alloc, next)? {
-            return Ok(count);
+            return Ok(k);
         }
-        count += 1;
     }
-    Ok(count)
+    Ok(behind.len())
 }
 
 /// Does an edit of a list, and those behind it up to the first that can't be done. It answers how many of those behind it
@@ -83,12 +82,12 @@ fn edit_form_in_turn<L: Editable>(
 pub fn edit_in_turn<L: Editable>(
     alloc: Global,
     list: &mut L,
-    edit: &Edit,
-    behind: &[Edit],
+    edit: Edit,
+    behind: &EditRun<'_>,
 ) -> Result<usize, OnceEnd>
     ensures count { IfOk result (λ n. n ≤ length behind.now) }
-    ensures ok { IfOk result (λ n. in_turn L.edited (edit_of edit.now) (take n (map edit_of behind.now)) (L.plain list.old) ≡ Ok (L.plain list.new)) }
-    ensures err { IfErr result (IsCauseOf (L.edited (edit_of edit.now) (L.plain list.old))) }
+    ensures ok { IfOk result (λ n. in_turn L.edited (edit_of edit) (take n behind.now) (L.plain list.old) ≡ Ok (L.plain list.new)) }
+    ensures err { IfErr result (IsCauseOf (L.edited (edit_of edit) (L.plain list.old))) }
 {
     if behind.is_empty() {
         if list.edit(alloc, edit)? {

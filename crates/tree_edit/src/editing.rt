@@ -1,5 +1,5 @@
 //! Edits of one part of a message, done in place. Each call answers how many of the edits behind the first were done.
-ghost use Rattle.std.specs.Prelude.{◌≡◌, ◌≤◌, [], drop, length, map, take, ◌<◌, IfOk, IfErr, Ok, Err};
+ghost use Rattle.std.specs.Prelude.{◌≡◌, ◌≤◌, [], drop, length, take, ◌<◌, IfOk, IfErr, Ok, Err};
 ghost use Rattle.edit_model.specs.Edits.{at_path, at_spot, body_with, changed_at, with_body, with_props};
 ghost use Rattle.msg_tree.specs.Meaning.{tree_of, list_of, body_of};
 ghost use Rattle.edit_words.specs.Meaning.{edit_of, spot_of};
@@ -13,7 +13,7 @@ use crate::ends::EditWhy;
 use crate::lists::edit_props;
 use crate::recipient_chunks::edit_recipients;
 use carrier_io::{NoMemory, Numbers};
-use edit_words::{Edit, Part, Spot};
+use edit_words::{Edit, EditRun, Part, Spot};
 use msg_tree::{Attachment, Attachments, Body, Message, Recipients};
 use prop_values::Props;
 use std::alloc::Global;
@@ -60,12 +60,12 @@ fn edit_recipient(
     alloc: Global,
     recipients: &mut Recipients<Vec<u8>>,
     number: u64,
-    edit: &Edit,
-    behind: &[Edit],
+    edit: Edit,
+    behind: &EditRun<'_>,
 ) -> Result<usize, OnceEnd>
     ensures count { IfOk result (λ n. n ≤ length behind.now) }
-    ensures ok { IfOk result (λ n. changed_at (in_turn on_props (edit_of edit.now) (take n (map edit_of behind.now))) number recipients.old ≡ Ok recipients.new) }
-    ensures err { IfErr result (IsCauseOf (changed_at (on_props (edit_of edit.now)) number recipients.old)) }
+    ensures ok { IfOk result (λ n. changed_at (in_turn on_props (edit_of edit) (take n behind.now)) number recipients.old ≡ Ok recipients.new) }
+    ensures err { IfErr result (IsCauseOf (changed_at (on_props (edit_of edit)) number recipients.old)) }
 {
     let k = place_in(number, recipients.len())?;
     let mut props = recipients.replace(k, Props::new(alloc));
@@ -79,12 +79,12 @@ fn edit_attachment(
     alloc: Global,
     attachments: &mut Attachments<Vec<u8>>,
     number: u64,
-    edit: &Edit,
-    behind: &[Edit],
+    edit: Edit,
+    behind: &EditRun<'_>,
 ) -> Result<usize, OnceEnd>
     ensures count { IfOk result (λ n. n ≤ length behind.now) }
-    ensures ok { IfOk result (λ n. changed_at (with_props (in_turn on_props (edit_of edit.now) (take n (map edit_of behind.now)))) number (list_of (λ v. v.items) attachments.old) ≡ Ok (list_of (λ v. v.items) attachments.new)) }
-    ensures err { IfErr result (IsCauseOf (changed_at (with_props (on_props (edit_of edit.now))) number (list_of (λ v. v.items) attachments.old))) }
+    ensures ok { IfOk result (λ n. changed_at (with_props (in_turn on_props (edit_of edit) (take n behind.now))) number (list_of (λ v. v.items) attachments.old) ≡ Ok (list_of (λ v. v.items) attachments.new)) }
+    ensures err { IfErr result (IsCauseOf (changed_at (with_props (on_props (edit_of edit))) number (list_of (λ v. v.items) attachments.old))) }
 {
     let k = place_in(number, attachments.len())?;
     let mut held = attachments.replace(k, empty(alloc));
@@ -98,12 +98,12 @@ fn edit_spot(
     alloc: Global,
     message: &mut Message<Vec<u8>>,
     spot: Spot,
-    edit: &Edit,
-    behind: &[Edit],
+    edit: Edit,
+    behind: &EditRun<'_>,
 ) -> Result<usize, OnceEnd>
     ensures count { IfOk result (λ n. n ≤ length behind.now) }
-    ensures ok { IfOk result (λ n. at_spot (in_turn on_props (edit_of edit.now) (take n (map edit_of behind.now))) (spot_of spot) (tree_of (λ v. v.items) message.old) ≡ Ok (tree_of (λ v. v.items) message.new)) }
-    ensures err { IfErr result (IsCauseOf (at_spot (on_props (edit_of edit.now)) (spot_of spot) (tree_of (λ v. v.items) message.old))) }
+    ensures ok { IfOk result (λ n. at_spot (in_turn on_props (edit_of edit) (take n behind.now)) (spot_of spot) (tree_of (λ v. v.items) message.old) ≡ Ok (tree_of (λ v. v.items) message.new)) }
+    ensures err { IfErr result (IsCauseOf (at_spot (on_props (edit_of edit)) (spot_of spot) (tree_of (λ v. v.items) message.old))) }
 {
     match spot {
         Spot::Message => edit_props(alloc, &mut message.props, edit, behind),
@@ -116,12 +116,12 @@ fn edit_spot(
 fn edit_here(
     alloc: Global,
     message: &mut Message<Vec<u8>>,
-    edit: &Edit,
-    behind: &[Edit],
+    edit: Edit,
+    behind: &EditRun<'_>,
 ) -> Result<usize, OnceEnd>
     ensures count { IfOk result (λ n. n ≤ length behind.now) }
-    ensures ok { IfOk result (λ n. on_part (part_of (edit_of edit.now)) (edit_of edit.now) (take n (map edit_of behind.now)) (tree_of (λ v. v.items) message.old) ≡ Ok (tree_of (λ v. v.items) message.new)) }
-    ensures err { IfErr result (IsCauseOf (on_part (part_of (edit_of edit.now)) (edit_of edit.now) [] (tree_of (λ v. v.items) message.old))) }
+    ensures ok { IfOk result (λ n. on_part (part_of (edit_of edit)) (edit_of edit) (take n behind.now) (tree_of (λ v. v.items) message.old) ≡ Ok (tree_of (λ v. v.items) message.new)) }
+    ensures err { IfErr result (IsCauseOf (on_part (part_of (edit_of edit)) (edit_of edit) [] (tree_of (λ v. v.items) message.old))) }
 {
     match edit.part() {
         Part::Props(spot) => edit_spot(alloc, message, spot, edit, behind),
@@ -137,12 +137,12 @@ fn edit_below(
     message: &mut Message<Vec<u8>>,
     path: &Numbers,
     at: usize,
-    edit: &Edit,
-    behind: &[Edit],
+    edit: Edit,
+    behind: &EditRun<'_>,
 ) -> Result<usize, OnceEnd>
     ensures count { IfOk result (λ n. n ≤ length behind.now) }
-    ensures ok { IfOk result (λ n. at_path (on_part (part_of (edit_of edit.now)) (edit_of edit.now) (take n (map edit_of behind.now))) (drop at path.now) (tree_of (λ v. v.items) message.old) ≡ Ok (tree_of (λ v. v.items) message.new)) }
-    ensures err { IfErr result (IsCauseOf (at_path (on_part (part_of (edit_of edit.now)) (edit_of edit.now) []) (drop at path.now) (tree_of (λ v. v.items) message.old))) }
+    ensures ok { IfOk result (λ n. at_path (on_part (part_of (edit_of edit)) (edit_of edit) (take n behind.now)) (drop at path.now) (tree_of (λ v. v.items) message.old) ≡ Ok (tree_of (λ v. v.items) message.new)) }
+    ensures err { IfErr result (IsCauseOf (at_path (on_part (part_of (edit_of edit)) (edit_of edit) []) (drop at path.now) (tree_of (λ v. v.items) message.old))) }
 {
     if at >= path.len() {
         return edit_here(alloc, message, edit, behind);
@@ -160,12 +160,12 @@ fn edit_in_attachment(
     number: u64,
     path: &Numbers,
     at: usize,
-    edit: &Edit,
-    behind: &[Edit],
+    edit: Edit,
+    behind: &EditRun<'_>,
 ) -> Result<usize, OnceEnd>
     ensures count { IfOk result (λ n. n ≤ length behind.now) }
-    ensures ok { IfOk result (λ n. changed_at (with_body (at_path (on_part (part_of (edit_of edit.now)) (edit_of edit.now) (take n (map edit_of behind.now))) (drop at path.now))) number (list_of (λ v. v.items) attachments.old) ≡ Ok (list_of (λ v. v.items) attachments.new)) }
-    ensures err { IfErr result (IsCauseOf (changed_at (with_body (at_path (on_part (part_of (edit_of edit.now)) (edit_of edit.now) []) (drop at path.now))) number (list_of (λ v. v.items) attachments.old))) }
+    ensures ok { IfOk result (λ n. changed_at (with_body (at_path (on_part (part_of (edit_of edit)) (edit_of edit) (take n behind.now)) (drop at path.now))) number (list_of (λ v. v.items) attachments.old) ≡ Ok (list_of (λ v. v.items) attachments.new)) }
+    ensures err { IfErr result (IsCauseOf (changed_at (with_body (at_path (on_part (part_of (edit_of edit)) (edit_of edit) []) (drop at path.now))) number (list_of (λ v. v.items) attachments.old))) }
 {
     let k = place_in(number, attachments.len())?;
     let mut held = attachments.replace(k, empty(alloc));
@@ -181,12 +181,12 @@ fn edit_in_body(
     body: &mut Body<Vec<u8>>,
     path: &Numbers,
     at: usize,
-    edit: &Edit,
-    behind: &[Edit],
+    edit: Edit,
+    behind: &EditRun<'_>,
 ) -> Result<usize, OnceEnd>
     ensures count { IfOk result (λ n. n ≤ length behind.now) }
-    ensures ok { IfOk result (λ n. body_with (at_path (on_part (part_of (edit_of edit.now)) (edit_of edit.now) (take n (map edit_of behind.now))) (drop at path.now)) (body_of (λ v. v.items) body.old) ≡ Ok (body_of (λ v. v.items) body.new)) }
-    ensures err { IfErr result (IsCauseOf (body_with (at_path (on_part (part_of (edit_of edit.now)) (edit_of edit.now) []) (drop at path.now)) (body_of (λ v. v.items) body.old))) }
+    ensures ok { IfOk result (λ n. body_with (at_path (on_part (part_of (edit_of edit)) (edit_of edit) (take n behind.now)) (drop at path.now)) (body_of (λ v. v.items) body.old) ≡ Ok (body_of (λ v. v.items) body.new)) }
+    ensures err { IfErr result (IsCauseOf (body_with (at_path (on_part (part_of (edit_of edit)) (edit_of edit) []) (drop at path.now)) (body_of (λ v. v.items) body.old))) }
 {
     match body {
         Body::Message(inner) => edit_below(alloc, inner, path, at, edit, behind),
@@ -195,17 +195,29 @@ fn edit_in_body(
     }
 }
 
+/// A path once more.
+fn copied(alloc: Global, path: &Numbers) -> Result<Numbers, NoMemory>
+    ensures { IfOk result (λ copy. copy ≡ path.now) }
+{
+    let mut copy = Numbers::with_capacity(alloc, path.len())?;
+    for k in 0..path.len() {
+        copy.push(*path.get(k))?;
+    }
+    Ok(copy)
+}
+
 /// Does an edit, and those behind it, which change the same part of the same message, up to the first that can't be done. The
 /// whole message is of no use where the first wasn't.
 pub fn edit_on(
     alloc: Global,
     message: &mut Message<Vec<u8>>,
-    edit: &Edit,
-    behind: &[Edit],
+    edit: Edit,
+    behind: &EditRun<'_>,
 ) -> Result<usize, OnceEnd>
     ensures count { IfOk result (λ n. n ≤ length behind.now) }
-    ensures ok { IfOk result (λ n. at_path (on_part (part_of (edit_of edit.now)) (edit_of edit.now) (take n (map edit_of behind.now))) (path_of (edit_of edit.now)) (tree_of (λ v. v.items) message.old) ≡ Ok (tree_of (λ v. v.items) message.new)) }
-    ensures err { IfErr result (IsCauseOf (at_path (on_part (part_of (edit_of edit.now)) (edit_of edit.now) []) (path_of (edit_of edit.now)) (tree_of (λ v. v.items) message.old))) }
+    ensures ok { IfOk result (λ n. at_path (on_part (part_of (edit_of edit)) (edit_of edit) (take n behind.now)) (path_of (edit_of edit)) (tree_of (λ v. v.items) message.old) ≡ Ok (tree_of (λ v. v.items) message.new)) }
+    ensures err { IfErr result (IsCauseOf (at_path (on_part (part_of (edit_of edit)) (edit_of edit) []) (path_of (edit_of edit)) (tree_of (λ v. v.items) message.old))) }
 {
-    edit_below(alloc, message, edit.path(), 0, edit, behind)
+    let path = copied(alloc, edit.path())?;
+    edit_below(alloc, message, &path, 0, edit, behind)
 }

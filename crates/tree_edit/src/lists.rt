@@ -1,5 +1,5 @@
 //! Changes of property lists.
-ghost use Rattle.std.specs.Prelude.{◌≡◌, ◌≤◌, length, map, take, OnOk, IfOk, IfErr, Ok, Err, true, false};
+ghost use Rattle.std.specs.Prelude.{◌≡◌, ◌≤◌, length, take, OnOk, IfOk, IfErr, Ok, Err, true, false};
 ghost use Rattle.edit_model.specs.Edits.{no_property, with_prop, without_prop};
 ghost use Rattle.prop_names.specs.Meaning.{key_of};
 ghost use Rattle.prop_values.specs.Kinds.{kind_number};
@@ -11,9 +11,8 @@ use crate::editing::OnceEnd;
 use crate::ends::EditWhy;
 use crate::prop_map::{PropMap, listed, mapped};
 use carrier_io::NoMemory;
-use edit_words::Edit;
+use edit_words::{Edit, EditRun};
 use prop_names::Key;
-use prop_values::copy::copy_prop;
 use prop_values::{InsertEnd, Kind, Prop, Props};
 use std::alloc::Global;
 
@@ -64,13 +63,13 @@ impl Editable for Props<Vec<u8>> {
 
     ghost WHY = { whys.NoProperty };
 
-    fn edit(&mut self, alloc: Global, edit: &Edit) -> Result<bool, NoMemory> {
+    fn edit(&mut self, _: Global, edit: Edit) -> Result<bool, NoMemory> {
         match edit {
             Edit::SetProp { prop, .. } => {
-                set_prop(self, copy_prop(alloc, prop)?)?;
+                set_prop(self, prop)?;
                 Ok(true)
             }
-            Edit::RemoveProp { key, kind, .. } => Ok(remove_prop(self, key, *kind)),
+            Edit::RemoveProp { key, kind, .. } => Ok(remove_prop(self, &key, kind)),
             _ => Ok(true),
         }
     }
@@ -79,13 +78,13 @@ impl Editable for Props<Vec<u8>> {
         mapped(alloc, self)
     }
 
-    fn edit_form(form: &mut Self::Form, alloc: Global, edit: &Edit) -> Result<bool, NoMemory> {
+    fn edit_form(form: &mut Self::Form, alloc: Global, edit: Edit) -> Result<bool, NoMemory> {
         match edit {
             Edit::SetProp { prop, .. } => {
-                form.set(alloc, copy_prop(alloc, prop)?)?;
+                form.set(alloc, prop)?;
                 Ok(true)
             }
-            Edit::RemoveProp { key, kind, .. } => form.remove(alloc, key, *kind),
+            Edit::RemoveProp { key, kind, .. } => form.remove(alloc, &key, kind),
             _ => Ok(true),
         }
     }
@@ -101,12 +100,12 @@ impl Editable for Props<Vec<u8>> {
 pub fn edit_props(
     alloc: Global,
     props: &mut Props<Vec<u8>>,
-    edit: &Edit,
-    behind: &[Edit],
+    edit: Edit,
+    behind: &EditRun<'_>,
 ) -> Result<usize, OnceEnd>
     ensures count { IfOk result (λ n. n ≤ length behind.now) }
-    ensures ok { IfOk result (λ n. in_turn on_props (edit_of edit.now) (take n (map edit_of behind.now)) props.old ≡ Ok props.new) }
-    ensures err { IfErr result (IsCauseOf (on_props (edit_of edit.now) props.old)) }
+    ensures ok { IfOk result (λ n. in_turn on_props (edit_of edit) (take n behind.now) props.old ≡ Ok props.new) }
+    ensures err { IfErr result (IsCauseOf (on_props (edit_of edit) props.old)) }
 {
     edit_in_turn(alloc, props, edit, behind)
 }

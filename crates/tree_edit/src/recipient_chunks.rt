@@ -1,5 +1,5 @@
 //! Edits of a list of recipients.
-ghost use Rattle.std.specs.Prelude.{◌≡◌, ◌≤◌, length, map, take, IfOk, IfErr, Ok};
+ghost use Rattle.std.specs.Prelude.{◌≡◌, ◌≤◌, length, take, IfOk, IfErr, Ok};
 ghost use Rattle.edit_words.specs.Meaning.{edit_of};
 ghost use Rattle.tree_edit.specs.Changes.{IsCauseOf, in_turn, on_recipients};
 
@@ -8,7 +8,7 @@ use crate::editable::{Editable, edit_in_turn};
 use crate::editing::{OnceEnd, place_in};
 use crate::ends::EditWhy;
 use carrier_io::NoMemory;
-use edit_words::Edit;
+use edit_words::{Edit, EditRun};
 use msg_tree::Recipients;
 use prop_values::Props;
 use std::alloc::Global;
@@ -33,13 +33,13 @@ impl Editable for Recipients<Vec<u8>> {
 
     ghost WHY = { whys.NoPlace };
 
-    fn edit(&mut self, alloc: Global, edit: &Edit) -> Result<bool, NoMemory> {
+    fn edit(&mut self, alloc: Global, edit: Edit) -> Result<bool, NoMemory> {
         match edit {
             Edit::AddRecipient { .. } => {
                 self.push(Props::new(alloc))?;
                 Ok(true)
             }
-            Edit::DropRecipient { number, .. } => match place_in(*number, self.len()) {
+            Edit::DropRecipient { number, .. } => match place_in(number, self.len()) {
                 Ok(k) => {
                     drop(self.remove(k));
                     Ok(true)
@@ -58,13 +58,13 @@ impl Editable for Recipients<Vec<u8>> {
         Ok(chunks)
     }
 
-    fn edit_form(form: &mut Self::Form, alloc: Global, edit: &Edit) -> Result<bool, NoMemory> {
+    fn edit_form(form: &mut Self::Form, alloc: Global, edit: Edit) -> Result<bool, NoMemory> {
         match edit {
             Edit::AddRecipient { .. } => {
                 form.push(alloc, Props::new(alloc))?;
                 Ok(true)
             }
-            Edit::DropRecipient { number, .. } => Ok(form.remove(*number).is_some()),
+            Edit::DropRecipient { number, .. } => Ok(form.remove(number).is_some()),
             _ => Ok(true),
         }
     }
@@ -83,12 +83,12 @@ impl Editable for Recipients<Vec<u8>> {
 pub fn edit_recipients(
     alloc: Global,
     recipients: &mut Recipients<Vec<u8>>,
-    edit: &Edit,
-    behind: &[Edit],
+    edit: Edit,
+    behind: &EditRun<'_>,
 ) -> Result<usize, OnceEnd>
     ensures count { IfOk result (λ n. n ≤ length behind.now) }
-    ensures ok { IfOk result (λ n. in_turn on_recipients (edit_of edit.now) (take n (map edit_of behind.now)) recipients.old ≡ Ok recipients.new) }
-    ensures err { IfErr result (IsCauseOf (on_recipients (edit_of edit.now) recipients.old)) }
+    ensures ok { IfOk result (λ n. in_turn on_recipients (edit_of edit) (take n behind.now) recipients.old ≡ Ok recipients.new) }
+    ensures err { IfErr result (IsCauseOf (on_recipients (edit_of edit) recipients.old)) }
 {
     edit_in_turn(alloc, recipients, edit, behind)
 }

@@ -1,16 +1,12 @@
 //! Edits that are done together: those in a row that change one part of a message.
-ghost use Rattle.std.specs.Prelude.{◌≡◌, ◌≤◌, ◌<◌, ◌+◌, ◌-◌, IsTrue, IfOk, IfErr, Some, drop, length, map, slice_get, take};
-ghost use Rattle.std.specs.List.{AllByRecursion};
+ghost use Rattle.std.specs.Prelude.{◌≡◌, ◌≤◌, ◌<◌, ◌+◌, ◌-◌, IfOk, IfErr, Some, drop, length, slice_get, take};
 ghost use Rattle.edit_model.specs.Edits.{Makes, edited_once};
 ghost use Rattle.edit_model.specs.Edits as plain;
 ghost use Rattle.msg_tree.specs.Meaning.{tree_of};
-ghost use Rattle.edit_words.specs.Meaning.{edit_of};
-ghost use Rattle.edit_words.specs.Parts.{part_of, path_of};
-ghost use Rattle.tree_edit.specs.Changes.{IsCauseOf, IsOf};
+ghost use Rattle.tree_edit.specs.Changes.{ChangeOnePart, IsCauseOf};
 
 use crate::editing::{OnceEnd, edit_on};
-use carrier_io::Numbers;
-use edit_words::{Edit, Edits};
+use edit_words::{EditRun, Edits};
 use msg_tree::Message;
 use std::alloc::Global;
 
@@ -18,70 +14,60 @@ use std::alloc::Global;
 /// in one block, and this many of such moves take about as long as to take each element out and put it back.
 const MANY: usize = 128;
 
-/// Whether two lists of numbers are the same.
-fn are_same(one: &Numbers, other: &Numbers) -> bool
-    ensures { IsTrue result → one.now ≡ other.now }
+/// The number of the first edit, behind one, that changes something else than that one does.
+fn end_of(edits: &Edits<'_>, at: usize) -> usize
+    requires { at < length edits.now }
+    ensures bounds { (at < result) × (result ≤ length edits.now) }
+    ensures run { ChangeOnePart (take (result - at) (drop at edits.now)) }
 {
-    if one.len() != other.len() {
-        return false;
-    }
-    for k in 0..one.len() {
-        if one.get(k) != other.get(k) {
-            return false;
-        }
-    }
-    true
-}
-
-/// Whether one edit changes the same part of the same message as another.
-fn is_beside(one: &Edit, other: &Edit) -> bool
-    ensures { IsTrue result → IsOf (path_of (edit_of other.now)) (part_of (edit_of other.now)) (edit_of one.now) }
-{
-    one.part() == other.part() && are_same(one.path(), other.path())
-}
-
-/// The number of the first edit, from one on, that changes something else than that one does.
-fn end_of(edits: &Edits, at: usize, edit: &Edit) -> usize
-    requires { at ≤ length edits.now }
-    ensures bounds { (at ≤ result) × (result ≤ length edits.now) }
-    ensures all { AllByRecursion (IsOf (path_of (edit_of edit.now)) (part_of (edit_of edit.now))) (take (result - at) (drop at edits.now)) }
-{
-    for k in at..edits.len() {
-        if !is_beside(edits.get(k), edit) {
+    let count = edits.len();
+    for k in at + 1..count {
+        if !edits.is_beside(k, at) {
             return k;
         }
     }
-    edits.len()
+    count
 }
 
-/// The edits behind one that are done with it: those that change the same, where they are many.
-fn behind<'a>(edits: &'a Edits, at: usize, edit: &Edit) -> &'a [Edit]
-    requires { at < length edits.now }
-    ensures run { map edit_of result.now ≡ take (length result.now) (drop (at + 1) edits.now) }
-    ensures bound { at + 1 + length result.now ≤ length edits.now }
-    ensures all { AllByRecursion (IsOf (path_of (edit_of edit.now)) (part_of (edit_of edit.now))) (map edit_of result.now) }
+/// Where the run ends in which an edit stands. Where an end behind the edit is known, it is not looked for again.
+pub fn run_end(edits: &Edits<'_>, at: usize, known: usize) -> usize
+    requires place { at < length edits.now }
+    requires bounds { (at ≤ known) × (known ≤ length edits.now) }
+    requires run { ChangeOnePart (take (known - at) (drop at edits.now)) }
+    ensures bounds { (at < result) × (result ≤ length edits.now) }
+    ensures run { ChangeOnePart (take (result - at) (drop at edits.now)) }
 {
-    let end = end_of(edits, at, edit);
+    if at < known { known } else { end_of(edits, at) }
+}
+
+/// The edits behind one that are done with it: those before the end of its run, where they are many.
+fn behind<'e>(edits: &'e Edits<'e>, at: usize, end: usize) -> EditRun<'e>
+    requires { (at < end) × (end ≤ length edits.now) }
+    ensures run { result ≡ take (length result) (drop (at + 1) edits.now) }
+    ensures bound { at + 1 + length result ≤ end }
+{
     if end - at < MANY {
         return edits.between(at, at);
     }
     edits.between(at + 1, end)
 }
 
-/// Does an edit, and with it those behind it that change the same, where they are many, up to the first that can't be done.
-/// It answers how many were done. The message is of no use where the first wasn't.
+/// Does an edit of a run, and with it those behind it up to the end of the run, where they are many, up to the first that
+/// can't be done. It answers how many were done. The message is of no use where the first wasn't.
 pub fn edit_next(
     alloc: Global,
     message: &mut Message<Vec<u8>>,
-    edits: &Edits,
+    edits: &Edits<'_>,
     at: usize,
+    end: usize,
 ) -> Result<usize, OnceEnd>
-    requires { at < length edits.now }
-    ensures count { IfOk result (λ count. (0 < count) × (at + count ≤ length edits.now)) }
+    requires bounds { (at < end) × (end ≤ length edits.now) }
+    requires run { ChangeOnePart (take (end - at) (drop at edits.now)) }
+    ensures count { IfOk result (λ count. (0 < count) × (at + count ≤ end)) }
     ensures ok { IfOk result (λ count. Makes (take count (drop at edits.now)) (tree_of (λ v. v.items) message.old) (tree_of (λ v. v.items) message.new)) }
     ensures err { IfErr result (λ e. (edit : plain.Edit) → slice_get edits.now at ≡ Some edit → IsCauseOf (edited_once edit (tree_of (λ v. v.items) message.old)) e) }
 {
-    let edit = edits.get(at);
-    let count = edit_on(alloc, message, edit, behind(edits, at, edit))?;
+    let edit = edits.read(alloc, at)?;
+    let count = edit_on(alloc, message, edit, &behind(edits, at, end))?;
     Ok(count + 1)
 }

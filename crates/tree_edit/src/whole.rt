@@ -6,7 +6,7 @@ ghost use Rattle.tree_edit.specs.Meaning.{IsEndOf};
 
 use crate::editing::OnceEnd;
 use crate::ends::{EditEnd, EditFault};
-use crate::runs::edit_next;
+use crate::runs::{edit_next, run_end};
 use carrier_io::Blob;
 use edit_words::Edits;
 use msg_tree::{Tree, copy_owned};
@@ -17,15 +17,17 @@ use std::alloc::Global;
 pub fn edited<B: Blob>(
     alloc: Global,
     tree: &Tree<B>,
-    edits: &Edits,
+    edits: &Edits<'_>,
 ) -> Result<Tree<Vec<u8>>, EditEnd>
     ensures done { IfOk result (λ t. edited_tree edits.now (plain_of tree.now) ≡ Ok (plain_of t)) }
     ensures refused { IfErr result (IsEndOf edits.now (plain_of tree.now)) }
 {
     let mut message = copy_owned(alloc, tree)?.into_message();
     let mut at = 0;
+    let mut end = 0;
     while at < edits.len() {
-        match edit_next(alloc, &mut message, edits, at) {
+        end = run_end(edits, at, end);
+        match edit_next(alloc, &mut message, edits, at, end) {
             Ok(count) => at += count,
             Err(OnceEnd::Cannot(why)) => {
                 let edit = at as u64;

@@ -72,7 +72,7 @@ fn push_words(rt: &HostRuntime, list: &mut Vec<String>, words: &[&str]) -> Resul
     Ok(())
 }
 
-fn edits_of(alloc: Global, words: &[String]) -> Result<Edits, Fail> {
+fn edits_of(alloc: Global, words: &[String]) -> Result<Edits<'_>, Fail> {
     Ok(read_edits(alloc, words)?.ok_or("edits")?)
 }
 

@@ -1,4 +1,4 @@
-use Rattle.std.proofs.Common.{sym, map, take}
+use Rattle.std.proofs.Common.{sym, take}
 use Rattle.edit_model.specs.Edits.{with_attachments}
 use Rattle.msg_tree.specs.Meaning.{tree_of, list_of}
 use Rattle.msg_tree.specs.declared.messages.Message.{out-Message}
@@ -11,9 +11,9 @@ use Rattle.tree_edit.proofs.editing.edit_here.Goals as goal
 pub returns-in-Attachments-clause-ok : goal.returns-in-Attachments-clause-ok
 returns-in-Attachments-clause-ok c =
     rw (sym c.in-Attachments.ensures) (ok_above c.edit_attachments.result _ _ (λ n is.
-    attachments_done (λ v. v.items) (in_turn on_attachments (edit_of c.args.edit.now) (take n (map edit_of c.args.behind.now))) c.args.message.now c.edit_attachments.new.attachments is) c.edit_attachments.ensures.ok)
+    attachments_done (λ v. v.items) (in_turn on_attachments (edit_of c.args.edit) (take n c.args.behind.now)) c.args.message.now c.edit_attachments.new.attachments is) c.edit_attachments.ensures.ok)
 
 pub returns-in-Attachments-clause-err : goal.returns-in-Attachments-clause-err
 returns-in-Attachments-clause-err c =
-    let change = on_attachments (edit_of c.args.edit.now) in
+    let change = on_attachments (edit_of c.args.edit) in
     rw (sym c.in-Attachments.ensures) (err_above c.edit_attachments.result (change (list_of (λ v. v.items) (out-Message _ c.args.message.now).attachments)) (with_attachments change (tree_of (λ v. v.items) c.args.message.now)) (λ why h. attachments_fail (λ v. v.items) change c.args.message.now why h) c.edit_attachments.ensures.err)

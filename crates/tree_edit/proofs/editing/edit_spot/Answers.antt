@@ -1,4 +1,4 @@
-use Rattle.std.proofs.Common.{map, take}
+use Rattle.std.proofs.Common.{take}
 use Rattle.edit_model.specs.Edits.{changed_at, with_props, with_attachments}
 use Rattle.msg_tree.specs.Meaning.{tree_of, list_of}
 use Rattle.msg_tree.specs.declared.messages.Message.{out-Message}
@@ -11,10 +11,10 @@ use Rattle.tree_edit.proofs.editing.edit_spot.Goals as goal
 pub returns-in-Attachment-clause-ok : goal.returns-in-Attachment-clause-ok
 returns-in-Attachment-clause-ok c =
     rw c.in-Attachment.is (ok_above c.edit_attachment.result _ _ (λ n is.
-    let change = changed_at (with_props (in_turn on_props (edit_of c.args.edit.now) (take n (map edit_of c.args.behind.now)))) c.in-Attachment.k in
+    let change = changed_at (with_props (in_turn on_props (edit_of c.args.edit) (take n c.args.behind.now))) c.in-Attachment.k in
     attachments_done (λ v. v.items) change c.args.message.now c.edit_attachment.new.attachments is) c.edit_attachment.ensures.ok)
 
 pub returns-in-Attachment-clause-err : goal.returns-in-Attachment-clause-err
 returns-in-Attachment-clause-err c =
-    let change = changed_at (with_props (on_props (edit_of c.args.edit.now))) c.in-Attachment.k in
+    let change = changed_at (with_props (on_props (edit_of c.args.edit))) c.in-Attachment.k in
     rw c.in-Attachment.is (err_above c.edit_attachment.result (change (list_of (λ v. v.items) (out-Message _ c.args.message.now).attachments)) (with_attachments change (tree_of (λ v. v.items) c.args.message.now)) (λ why h. attachments_fail (λ v. v.items) change c.args.message.now why h) c.edit_attachment.ensures.err)

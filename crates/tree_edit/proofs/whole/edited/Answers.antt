@@ -1,7 +1,7 @@
 use Rattle.std.proofs.Common.{◌∙◌, sym, arith}
 use Rattle.msg_tree.specs.Meaning.{tree_of}
 use Rattle.tree_edit.specs.Meaning.{why_of}
-use Rattle.tree_edit.proofs.Composed.{from_made, makes_depth, makes_stores}
+use Rattle.tree_edit.proofs.Composed.{from_made, makes_depth, makes_stores, run_left}
 use Rattle.tree_edit.proofs.Once.{from_fails, some_edit}
 use Rattle.tree_edit.proofs.whole.edited.Goals as goal
 
@@ -11,10 +11,12 @@ loop-at-preserved g c =
     let new = tree_of (λ v. v.items) c.edit_next.new.message in
     let bounds = c.in-Ok.ensures.count in
     let made = c.in-Ok.ensures.ok in (
-      sym (from_made c.args.edits.now c.loop-at.at c.in-Ok.count old new bounds.1 made) ∙ c.loop-at.invariant.0,
+      sym (from_made c.args.edits.now c.loop-at.at c.in-Ok.count old new (omega (arith, bounds.1, c.run_end-end.ensures.bounds.1)) made) ∙ c.loop-at.invariant.0,
       makes_depth _ 32 old new c.loop-at.invariant.1 made,
       makes_stores _ old new c.loop-at.invariant.2 made,
       bounds.1,
+      c.run_end-end.ensures.bounds.1,
+      run_left c.args.edits.now c.loop-at.at c.in-Ok.count c.run_end-end.result bounds.1 c.run_end-end.ensures.run,
     )
 
 pub returns-in-Err-Cannot-clause-refused : goal.returns-in-Err-Cannot-clause-refused
