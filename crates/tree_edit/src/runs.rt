@@ -6,7 +6,7 @@ ghost use Rattle.msg_tree.specs.Meaning.{tree_of};
 ghost use Rattle.tree_edit.specs.Changes.{ChangeOnePart, IsCauseOf};
 
 use crate::editing::{OnceEnd, edit_on};
-use edit_words::{EditRun, Edits};
+use edit_words::{Edit, EditRun, Edits};
 use msg_tree::Message;
 use std::alloc::Global;
 
@@ -52,6 +52,18 @@ fn behind<'e>(edits: &'e Edits<'e>, at: usize, end: usize) -> EditRun<'e>
     edits.between(at + 1, end)
 }
 
+/// Where those end that are done with an edit: the end of its run, but behind itself where it puts a recipient behind the
+/// others, which takes one step however many there are.
+fn end_with(edit: &Edit, at: usize, end: usize) -> usize
+    requires { at < end }
+    ensures { (at < result) × (result ≤ end) }
+{
+    match edit {
+        Edit::AddRecipient { .. } => at + 1,
+        _ => end,
+    }
+}
+
 /// Does an edit of a run, and with it those behind it up to the end of the run, where they are many, up to the first that
 /// can't be done. It answers how many were done. The message is of no use where the first wasn't.
 pub fn edit_next(
@@ -68,6 +80,7 @@ pub fn edit_next(
     ensures err { IfErr result (λ e. (edit : plain.Edit) → slice_get edits.now at ≡ Some edit → IsCauseOf (edited_once edit (tree_of (λ v. v.items) message.old)) e) }
 {
     let edit = edits.read(alloc, at)?;
-    let count = edit_on(alloc, message, edit, &behind(edits, at, end))?;
+    let last = end_with(&edit, at, end);
+    let count = edit_on(alloc, message, edit, &behind(edits, at, last))?;
     Ok(count + 1)
 }

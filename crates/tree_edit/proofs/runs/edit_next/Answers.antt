@@ -1,4 +1,4 @@
-use Rattle.std.proofs.Common.{◌≡◌, suc, ◌+◌, ◌∷◌, Some, drop, length, take, refl, sym, ap, subst, ◌∙◌, arith}
+use Rattle.std.proofs.Common.{◌≡◌, ◌≤◌, suc, ◌+◌, ◌∷◌, Some, drop, length, take, refl, sym, ap, subst, ◌∙◌, arith}
 use Rattle.std.proofs.lemmas.List.{take-take}
 use Rattle.std.proofs.lemmas.Result.{err_from_is_err_and}
 use Rattle.carrier_model.proofs.Trees.{drop_at}
@@ -27,5 +27,6 @@ returns-clause-ok c =
     let front : take n run ≡ take n (drop (at + 1) es) = ap (take n) c.behind.ensures.run ∙ take-take n (length run) (drop (at + 1) es) c.in_ok-count.ensures.count in
     let one : n + 1 ≡ suc n = omega arith in
     let more : take (n + 1) (drop at es) ≡ e ∷ take n run = ap (take (n + 1)) (drop_at es at e c.in_ok-edit.ensures) ∙ (ap (λ m. take m (e ∷ drop (at + 1) es)) one ∙ ap (λ l. e ∷ l) (sym front)) in
-    let all = run_all es run at c.args.end e c.in_ok-edit.ensures c.requires.run c.behind.ensures.bound c.behind.ensures.run in
+    let bound : at + 1 + length run ≤ c.args.end = omega (arith, c.behind.ensures.bound, c.end_with-last.ensures.1) in
+    let all = run_all es run at c.args.end e c.in_ok-edit.ensures c.requires.run bound c.behind.ensures.run in
     rw more (run_makes (path_of e) (part_of e) e (take n run) (tree_of (λ v. v.items) c.args.message.now) (tree_of (λ v. v.items) c.edit_on.new.message) (refl, refl) (all_front (IsOf (path_of e) (part_of e)) n run all) c.in_ok-count.ensures.ok)
