@@ -1,5 +1,6 @@
 -- Texts of lists, element by element.
 use Rattle.std.proofs.Common.{ℕ, zero, suc, ◌+◌, ◌-◌, ◌*◌, ◌/◌, ◌%◌, ◌<◌, ◌≤◌, ◌≡◌, List, [], ◌∷◌, ◌++◌, length, get_or, take, drop, ap, sym, ◌∙◌, append_assoc, inl, inr, refl, arith}
+use Rattle.std.specs.Int.{w16, from_le_bytes}
 use Rattle.std.specs.List.{flat_map}
 use Rattle.std.proofs.lemmas.Bool.{cases_lt}
 use Rattle.std.proofs.lemmas.List.{append-nil, drop_more, take_all, take_more, take-append-drop}
@@ -46,6 +47,16 @@ take_two {X = X} xs k d lt =
     let same : 2 * (k + 1) ≡ 2 * k + 1 + 1 = omega arith in
     let first : 2 * k < length xs = omega (arith, lt) in
     ap (λ n. take n xs) same ∙ take_more xs (2 * k + 1) d lt ∙ ap (λ (z : List X). z ++ (get_or xs (2 * k + 1) d ∷ [])) (take_more xs (2 * k) d first) ∙ append_assoc (take (2 * k) xs) (get_or xs (2 * k) d ∷ []) (get_or xs (2 * k + 1) d ∷ [])
+
+-- the number field of a unit
+pub field_is : (xs : List ℕ) (k : ℕ) → 2 * k + 1 < length xs → from_le_bytes w16 (take 2 (drop (2 * k) xs)) ≡ get_or xs (2 * k) 0 + 256 * get_or xs (2 * k + 1) 0
+field_is xs k lt =
+    let first : 2 * k < length xs = omega (arith, lt) in
+    let two : drop (2 * k) xs ≡ get_or xs (2 * k) 0 ∷ get_or xs (2 * k + 1) 0 ∷ drop (2 * k + 1 + 1) xs = drop_more xs (2 * k) 0 first ∙ ap (λ l. get_or xs (2 * k) 0 ∷ l) (drop_more xs (2 * k + 1) 0 lt) in
+    ap (λ l. from_le_bytes w16 (take 2 l)) two ∙ pair (get_or xs (2 * k) 0) (get_or xs (2 * k + 1) 0)
+  where
+    pair : (a b : ℕ) → from_le_bytes w16 (a ∷ b ∷ []) ≡ a + 256 * b
+    pair a b = omega arith
 
 -- pairs, and one element behind them
 pub pairs_and_one : {X : Type 0} (xs : List X) (d : X) → length xs % 2 ≡ 1 → xs ≡ take (2 * (length xs / 2)) xs ++ (get_or xs (length xs - 1) d ∷ [])

@@ -6,8 +6,9 @@ ghost use Rattle.json_writer.specs.Decoded.{text_left};
 ghost use Rattle.json_writer.specs.Units.{character_text};
 
 use crate::characters::short_escape;
-use crate::plain::{are_plain, is_plain, put_plain, unit_at};
+use crate::plain::{are_plain, is_plain, put_plain};
 use crate::utf16::Utf16;
+use carrier_io::u16_at;
 use prop_names::lower_digits2;
 
 /// How many bytes are decoded at a time.
@@ -135,7 +136,7 @@ fn put_each(buffer: &mut [u8; ROOM], decoder: &mut Utf16, bytes: &[u8]) -> usize
 {
     let mut used = 0;
     for k in 0..bytes.len() / 2 {
-        used = put_unit(buffer, used, decoder, unit_at(bytes, k));
+        used = put_unit(buffer, used, decoder, u16_at(bytes, 2 * k));
     }
     used
 }

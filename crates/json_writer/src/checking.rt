@@ -4,9 +4,9 @@ ghost use Rattle.carrier_model.specs.Bytes.{unit_bytes};
 ghost use Rattle.json_writer.specs.Decoded.{fits_with};
 
 use crate::buffers::CHUNK;
-use crate::plain::{are_lone, put_units, unit_at};
+use crate::plain::{are_lone, put_units};
 use crate::utf16::Utf16;
-use carrier_io::Blob;
+use carrier_io::{Blob, u16_at};
 
 /// Lets a decoder take bytes, one by one.
 fn decode_bytes(decoder: &mut Utf16, bytes: &[u8])
@@ -24,7 +24,7 @@ fn decode_each(decoder: &mut Utf16, bytes: &[u8])
     ensures { (more : List ℕ) → fits_with decoder.old (bytes.now ++ more) ≡ fits_with decoder.new more }
 {
     for k in 0..bytes.len() / 2 {
-        decoder.take_unit(unit_at(bytes, k));
+        decoder.take_unit(u16_at(bytes, 2 * k));
     }
 }
 

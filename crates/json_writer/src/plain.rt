@@ -5,6 +5,7 @@ ghost use Rattle.json_writer.specs.Plain.{AreLone, ArePlain, IsPlain, lows};
 
 use crate::buffers::{CHUNK, ROOM};
 use crate::utf16::is_lone;
+use carrier_io::u16_at;
 
 /// Whether a unit stands for itself: one of ASCII that is no control character, no quote and no backslash.
 #[inline(always)]
@@ -14,22 +15,13 @@ pub(crate) fn is_plain(unit: u16) -> bool
     (0x20 <= unit) & (unit < 0x80) & (unit != 0x22) & (unit != 0x5c)
 }
 
-/// The unit of a number, from 0.
-#[inline(always)]
-pub(crate) fn unit_at(bytes: &[u8], k: usize) -> u16
-    requires { 2 * k + 1 < length bytes.now }
-    ensures { result ≡ get_or bytes.now (2 * k) 0 + 256 * get_or bytes.now (2 * k + 1) 0 }
-{
-    u16::from_le_bytes([bytes[2 * k], bytes[2 * k + 1]])
-}
-
 /// Whether bytes are whole units that stand for themselves.
 pub(crate) fn are_plain(bytes: &[u8]) -> bool
     ensures { IsTrue result → ArePlain bytes.now }
 {
     let mut plain = bytes.len() % 2 == 0;
     for k in 0..bytes.len() / 2 {
-        plain = plain & is_plain(unit_at(bytes, k));
+        plain = plain & is_plain(u16_at(bytes, 2 * k));
     }
     plain
 }
@@ -40,7 +32,7 @@ pub(crate) fn are_lone(bytes: &[u8]) -> bool
 {
     let mut lone = bytes.len() % 2 == 0;
     for k in 0..bytes.len() / 2 {
-        lone = lone & is_lone(unit_at(bytes, k));
+        lone = lone & is_lone(u16_at(bytes, 2 * k));
     }
     lone
 }

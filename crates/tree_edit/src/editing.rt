@@ -12,7 +12,7 @@ use crate::attachment_chunks::edit_attachments;
 use crate::ends::EditWhy;
 use crate::lists::edit_props;
 use crate::recipient_chunks::edit_recipients;
-use carrier_io::{NoMemory, Numbers};
+use carrier_io::NoMemory;
 use edit_words::{Edit, EditRun, Part, Spot};
 use msg_tree::{Attachment, Attachments, Body, Message, Recipients};
 use prop_values::Props;
@@ -130,26 +130,32 @@ fn edit_here(
     }
 }
 
-/// Does edits of a part of the message to which what is left of a path leads.
+/// Does edits of a part of the message to which what is left of their path leads.
 #[cycle(below)]
 fn edit_below(
     alloc: Global,
     message: &mut Message<Vec<u8>>,
-    path: &Numbers,
     at: usize,
     edit: Edit,
     behind: &EditRun<'_>,
 ) -> Result<usize, OnceEnd>
     ensures count { IfOk result (λ n. n ≤ length behind.now) }
-    ensures ok { IfOk result (λ n. at_path (on_part (part_of (edit_of edit)) (edit_of edit) (take n behind.now)) (drop at path.now) (tree_of (λ v. v.items) message.old) ≡ Ok (tree_of (λ v. v.items) message.new)) }
-    ensures err { IfErr result (IsCauseOf (at_path (on_part (part_of (edit_of edit)) (edit_of edit) []) (drop at path.now) (tree_of (λ v. v.items) message.old))) }
+    ensures ok { IfOk result (λ n. at_path (on_part (part_of (edit_of edit)) (edit_of edit) (take n behind.now)) (drop at (path_of (edit_of edit))) (tree_of (λ v. v.items) message.old) ≡ Ok (tree_of (λ v. v.items) message.new)) }
+    ensures err { IfErr result (IsCauseOf (at_path (on_part (part_of (edit_of edit)) (edit_of edit) []) (drop at (path_of (edit_of edit))) (tree_of (λ v. v.items) message.old))) }
 {
+    let path = edit.path();
     if at >= path.len() {
         return edit_here(alloc, message, edit, behind);
     }
     let number = *path.get(at);
-    let held = &mut message.attachments;
-    edit_in_attachment(alloc, held, number, path, at + 1, edit, behind)
+    edit_in_attachment(
+        alloc,
+        &mut message.attachments,
+        number,
+        at + 1,
+        edit,
+        behind,
+    )
 }
 
 /// Does edits of a part of the message of an attachment or of one below it.
@@ -158,18 +164,17 @@ fn edit_in_attachment(
     alloc: Global,
     attachments: &mut Attachments<Vec<u8>>,
     number: u64,
-    path: &Numbers,
     at: usize,
     edit: Edit,
     behind: &EditRun<'_>,
 ) -> Result<usize, OnceEnd>
     ensures count { IfOk result (λ n. n ≤ length behind.now) }
-    ensures ok { IfOk result (λ n. changed_at (with_body (at_path (on_part (part_of (edit_of edit)) (edit_of edit) (take n behind.now)) (drop at path.now))) number (list_of (λ v. v.items) attachments.old) ≡ Ok (list_of (λ v. v.items) attachments.new)) }
-    ensures err { IfErr result (IsCauseOf (changed_at (with_body (at_path (on_part (part_of (edit_of edit)) (edit_of edit) []) (drop at path.now))) number (list_of (λ v. v.items) attachments.old))) }
+    ensures ok { IfOk result (λ n. changed_at (with_body (at_path (on_part (part_of (edit_of edit)) (edit_of edit) (take n behind.now)) (drop at (path_of (edit_of edit))))) number (list_of (λ v. v.items) attachments.old) ≡ Ok (list_of (λ v. v.items) attachments.new)) }
+    ensures err { IfErr result (IsCauseOf (changed_at (with_body (at_path (on_part (part_of (edit_of edit)) (edit_of edit) []) (drop at (path_of (edit_of edit))))) number (list_of (λ v. v.items) attachments.old))) }
 {
     let k = place_in(number, attachments.len())?;
     let mut held = attachments.replace(k, empty(alloc));
-    let count = edit_in_body(alloc, &mut held.body, path, at, edit, behind)?;
+    let count = edit_in_body(alloc, &mut held.body, at, edit, behind)?;
     drop(attachments.replace(k, held));
     Ok(count)
 }
@@ -179,31 +184,19 @@ fn edit_in_attachment(
 fn edit_in_body(
     alloc: Global,
     body: &mut Body<Vec<u8>>,
-    path: &Numbers,
     at: usize,
     edit: Edit,
     behind: &EditRun<'_>,
 ) -> Result<usize, OnceEnd>
     ensures count { IfOk result (λ n. n ≤ length behind.now) }
-    ensures ok { IfOk result (λ n. body_with (at_path (on_part (part_of (edit_of edit)) (edit_of edit) (take n behind.now)) (drop at path.now)) (body_of (λ v. v.items) body.old) ≡ Ok (body_of (λ v. v.items) body.new)) }
-    ensures err { IfErr result (IsCauseOf (body_with (at_path (on_part (part_of (edit_of edit)) (edit_of edit) []) (drop at path.now)) (body_of (λ v. v.items) body.old))) }
+    ensures ok { IfOk result (λ n. body_with (at_path (on_part (part_of (edit_of edit)) (edit_of edit) (take n behind.now)) (drop at (path_of (edit_of edit)))) (body_of (λ v. v.items) body.old) ≡ Ok (body_of (λ v. v.items) body.new)) }
+    ensures err { IfErr result (IsCauseOf (body_with (at_path (on_part (part_of (edit_of edit)) (edit_of edit) []) (drop at (path_of (edit_of edit)))) (body_of (λ v. v.items) body.old))) }
 {
     match body {
-        Body::Message(inner) => edit_below(alloc, inner, path, at, edit, behind),
+        Body::Message(inner) => edit_below(alloc, inner, at, edit, behind),
         Body::Plain => Err(OnceEnd::Cannot(EditWhy::NoPlace)),
         Body::Store(_) => Err(OnceEnd::Cannot(EditWhy::NoPlace)),
     }
-}
-
-/// A path once more.
-fn copied(alloc: Global, path: &Numbers) -> Result<Numbers, NoMemory>
-    ensures { IfOk result (λ copy. copy ≡ path.now) }
-{
-    let mut copy = Numbers::with_capacity(alloc, path.len())?;
-    for k in 0..path.len() {
-        copy.push(*path.get(k))?;
-    }
-    Ok(copy)
 }
 
 /// Does an edit, and those behind it, which change the same part of the same message, up to the first that can't be done. The
@@ -218,6 +211,5 @@ pub fn edit_on(
     ensures ok { IfOk result (λ n. at_path (on_part (part_of (edit_of edit)) (edit_of edit) (take n behind.now)) (path_of (edit_of edit)) (tree_of (λ v. v.items) message.old) ≡ Ok (tree_of (λ v. v.items) message.new)) }
     ensures err { IfErr result (IsCauseOf (at_path (on_part (part_of (edit_of edit)) (edit_of edit) []) (path_of (edit_of edit)) (tree_of (λ v. v.items) message.old))) }
 {
-    let path = copied(alloc, edit.path())?;
-    edit_below(alloc, message, &path, 0, edit, behind)
+    edit_below(alloc, message, 0, edit, behind)
 }

@@ -1,6 +1,6 @@
-use Rattle.std.proofs.Common.{◌+◌, ◌*◌, ◌<◌, length, take, get_or, arith}
+use Rattle.std.proofs.Common.{◌∙◌, ◌+◌, ◌*◌, ◌<◌, length, take, get_or, arith}
 use Rattle.std.proofs.lemmas.Bool.{and_parts}
-use Rattle.json_writer.proofs.Lists.{take_two}
+use Rattle.json_writer.proofs.Lists.{field_is, take_two}
 use Rattle.json_writer.proofs.PlainRuns.{lows_two, plain_more}
 use Rattle.json_writer.proofs.plain.are_plain.Goals as goal
 
@@ -11,4 +11,4 @@ loop-k-preserved c all =
     let both : 2 * k + 1 < length xs = omega (arith, c.loop-k-test.true, c.loop-k.auto.k-end) in
     let tests = and_parts c.loop-k.plain c.is_plain-plain.result all in
     let before = c.loop-k.invariant tests.0 in
-    (before.0, plain_more (take (2 * k) xs) _ (get_or xs (2 * k) 0) (get_or xs (2 * k + 1) 0) (take_two xs k 0 both) (lows_two k xs both) before.1 (rw c.unit_at.ensures at (c.is_plain-plain.ensures tests.1)))
+    (before.0, plain_more (take (2 * k) xs) _ (get_or xs (2 * k) 0) (get_or xs (2 * k + 1) 0) (take_two xs k 0 both) (lows_two k xs both) before.1 (rw (c.u16_at.ensures ∙ field_is xs k both) at (c.is_plain-plain.ensures tests.1)))
