@@ -5,11 +5,13 @@
     bench/hostile.py                      all shapes; half an hour
     bench/hostile.py tnef names           the shapes with one of these words in their names
     bench/hostile.py --rows               a table of all rows, in place of one row a shape, the worst of its commands
+    bench/hostile.py --count              counts instructions too where the time more than doubled; needs valgrind
     bench/hostile.py --list               the shapes
 
 The bounds: twice the size takes at most 2.3 times the time; the time is at most 20 times that of sha256sum on the same
 file; the memory above that of a run on the 63-byte sample is at most 12 times an input of tiny parts, and 2.2 times any
 other. A ratio above its bound is printed bold, and so is an end that is not the expected one; the exit code is then 1.
+Instructions at twice the size are told over those at the size; memory that is far away makes times grow by more.
 Times are processor times, the least of some runs. A row that takes less than 20 ms is mostly the start of a process:
 its times are in brackets and tell nothing. Edits are measured by the bytes of their words and their input.
 """
@@ -40,6 +42,8 @@ class Row(typing.NamedTuple):
     memory_bound: float
     code: int
     wrong: str
+    # Instructions at the double over those at the size; 0 where they were not counted.
+    work: float = 0
 
     def is_short(self):
         return self.seconds < SHORT
@@ -53,8 +57,9 @@ class Row(typing.NamedTuple):
 class Bench:
     """The program, and what a run of it takes at least."""
 
-    def __init__(self, program, folder, count, kept=None):
-        self.program, self.folder, self.runs, self.kept = program, pathlib.Path(folder), count, kept
+    def __init__(self, program, folder, chosen):
+        self.program, self.folder, self.runs, self.kept = program, pathlib.Path(folder), chosen.runs, chosen.keep
+        self.counts = chosen.count
         self.measure = runs.Measure(folder)
         self.least_memory = {}
 
@@ -93,6 +98,10 @@ class Bench:
                       whole.seconds / max(digest, 1e-4), memory, bound, whole.code, wrong_end((half, whole), *expected))
             if not any(row.marks()[:2]):
                 break
+        if self.counts and row.marks()[0]:
+            half, whole = [runs.instructions([self.program, *words], source, self.folder)
+                           for words, source in zip(command, sources)]
+            row = row._replace(work=whole / half)
         return row
 
 
@@ -150,13 +159,17 @@ def bold(text, marked):
 
 def line_of(row):
     growth, digest, memory = row.marks()
-    times = [bold(f"{row.growth:.2f}", growth), bold(f"{row.digest:.1f}", digest)]
+    times = [bold(f"{row.growth:.2f}", growth) + in_instructions(row), bold(f"{row.digest:.1f}", digest)]
     if row.is_short():
         times = [f"({time})" for time in times]
     kept = bold(f"{row.memory:.2f}", memory)
     end = f"**{row.wrong}**" if row.wrong else str(row.code)
     return (f"| {row.shape} | {row.command} | {row.size / runs.MIB:.1f} | {1000 * row.seconds:.0f} | {times[0]} |"
             f" {times[1]} | {kept} | {end} |")
+
+
+def in_instructions(row):
+    return f" ({row.work:.2f} in instructions)" if row.work else ""
 
 
 def worst(rows, key):
@@ -171,7 +184,8 @@ def summary(rows):
         row = worst(rows, key)
         text = f"{getattr(row, key):.2f}" if key != "digest" else f"{row.digest:.1f}"
         text = f"({text})" if row.is_short() and key != "memory" else text
-        cells.append(bold(text, row.marks()[place]) + f" {row.command}")
+        counted = in_instructions(row) if key == "growth" else ""
+        cells.append(bold(text, row.marks()[place]) + f" {row.command}{counted}")
     ends = " ".join(sorted({str(row.code) for row in rows}))
     wrong = "".join(f" **{row.command}: {row.wrong}**" for row in rows if row.wrong)
     return f"| {rows[0].shape} | {rows[0].size / runs.MIB:.1f} | {' | '.join(cells)} | {ends}{wrong} |"
@@ -209,6 +223,7 @@ def arguments():
     parser.add_argument("--runs", type=int, default=2)
     parser.add_argument("--scale", type=int, default=1, help="divides the sizes; ends at limits are then not the expected")
     parser.add_argument("--rows", action="store_true", help="print every row, not the worst of a shape alone")
+    parser.add_argument("--count", action="store_true", help="count instructions where the time more than doubled")
     parser.add_argument("--list", action="store_true")
     parser.add_argument("--keep", help="a folder in which the inputs stay, 2 GB, and are found the next time")
     runs.add_program(parser)
@@ -227,7 +242,7 @@ def main():
              if chosen.rows else "| Shape | MiB | doubled | sha256sum | memory | ends |\n|---|---|---|---|---|---|")
     print(heads)
     with tempfile.TemporaryDirectory() as folder:
-        bench = Bench(chosen.program, folder, chosen.runs, chosen.keep)
+        bench = Bench(chosen.program, folder, chosen)
         for rows in measured_rows(bench, chosen):
             lines = [line_of(row) for row in rows] if chosen.rows else [summary(rows)] if rows else []
             print("\n".join(lines), end="\n" if lines else "", flush=True)

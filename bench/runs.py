@@ -2,6 +2,7 @@
 
 import os
 import pathlib
+import re
 import resource
 import subprocess
 import typing
@@ -56,6 +57,15 @@ class Measure:
             if found.code >= 0:
                 found = min(found, self.run(words, source))
         return found
+
+
+def instructions(words, source, folder):
+    """How many instructions a command takes outside the system, counted by valgrind."""
+    told = pathlib.Path(folder) / "counted"
+    tool = ["valgrind", "--tool=callgrind", "--callgrind-out-file=/dev/null", f"--log-file={told}"]
+    with open(source, "rb") as given:
+        subprocess.run([*tool, *words], stdin=given, stdout=subprocess.DEVNULL, stderr=subprocess.DEVNULL)
+    return int(re.search(r"Collected : (\d+)", told.read_text()).group(1))
 
 
 def knows(program, words):
