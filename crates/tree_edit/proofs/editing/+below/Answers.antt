@@ -21,14 +21,14 @@ edit_in_attachment-returns-clause-ok t c =
 
 pub edit_below-returns-clause-ok : goal.edit_below-returns-clause-ok
 edit_below-returns-clause-ok t c =
-    let step = drop_at (path_of (edit_of c.args.edit)) c.args.at c.get-number.result.now (rw c.path-2.ensures at c.get-number.ensures) in
+    let step = drop_at (path_of (edit_of c.args.edit)) c.args.at c.get-number.result.now (rw c.path-path.ensures at c.get-number.ensures) in
     ok_above c.edit_in_attachment.result _ _ (λ n is.
     let change = changed_at (with_body (at_path (on_part (part_of (edit_of c.args.edit)) (edit_of c.args.edit) (take n c.args.behind.now)) (drop (c.args.at + 1) (path_of (edit_of c.args.edit))))) c.get-number.result.now in
     rw step (attachments_done (λ v. v.items) change c.args.message.now c.edit_in_attachment.new.attachments is)) c.edit_in_attachment.ensures.ok
 
 pub edit_below-returns-clause-err : goal.edit_below-returns-clause-err
 edit_below-returns-clause-err t c =
-    let step = drop_at (path_of (edit_of c.args.edit)) c.args.at c.get-number.result.now (rw c.path-2.ensures at c.get-number.ensures) in
+    let step = drop_at (path_of (edit_of c.args.edit)) c.args.at c.get-number.result.now (rw c.path-path.ensures at c.get-number.ensures) in
     let change = changed_at (with_body (at_path (on_part (part_of (edit_of c.args.edit)) (edit_of c.args.edit) []) (drop (c.args.at + 1) (path_of (edit_of c.args.edit))))) c.get-number.result.now in
     rw step (err_above c.edit_in_attachment.result (change (list_of (λ v. v.items) (out-Message _ c.args.message.now).attachments)) (with_attachments change (tree_of (λ v. v.items) c.args.message.now)) (λ why h. attachments_fail (λ v. v.items) change c.args.message.now why h) c.edit_in_attachment.ensures.err)
 
