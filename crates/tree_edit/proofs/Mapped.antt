@@ -144,12 +144,6 @@ after_remove es fs key kind q both own is = is ∙ (ap (λ x. remove_entry (is_a
 found : (es : List (Prop × Prop)) (key : Key) (kind : ℕ) (q : Prop) → IsPairing es → q ≡ with_pair key kind → is_some (lookup (is_at (prop_cmp q)) es) ≡ list_any (has_pair key kind) (vals es)
 found es key kind q both own = ap (λ x. is_some (lookup (is_at (prop_cmp x)) es)) own ∙ (ap (λ l. is_some (lookup (is_at (prop_cmp (with_pair key kind))) l)) both.0 ∙ found_paired key kind (vals es))
 
-pub after_pop : (es fs : List (Prop × Prop)) (e : Prop × Prop) → IsPairing es → es ≡ e ∷ fs → IsPairing fs
-after_pop es fs e both is =
-    let whole : e ∷ fs ≡ map paired (vals (e ∷ fs)) = subst (λ l. l ≡ map paired (vals l)) is both.0 in
-    let rest : fs ≡ map paired (vals fs) = cc in
-    (rest, tail_sorted prop_total e.1 (vals fs) (subst (λ l. IsStrictlySorted prop_cmp (vals l)) is both.1))
-
 stays : (key : Key) (kind : ℕ) (l : List Prop) → list_any (has_pair key kind) l ≡ false → without_pair key kind l ≡ l
 stays key kind [] h = refl
 stays key kind (p ∷ l) h = by (has_pair key kind p) (stays key kind l) h

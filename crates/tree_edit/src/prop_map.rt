@@ -1,5 +1,5 @@
 //! Property lists in which a property is set or removed in few steps, however many there are.
-ghost use Rattle.std.specs.Prelude.{◌≡◌, ◌∷◌, [], Ok, Err, true, false, IfSome, IfNone, IfOk, OnOk};
+ghost use Rattle.std.specs.Prelude.{◌≡◌, [], Ok, Err, true, false, IfOk, OnOk};
 ghost use Rattle.carrier_model.specs.Sorted.{IsStrictlySorted};
 ghost use Rattle.carrier_model.specs.Values.{prop_cmp};
 ghost use Rattle.edit_model.specs.Edits.{no_property, with_prop, without_prop};
@@ -138,17 +138,6 @@ impl PropMap {
         let key = key.copy(alloc)?;
         Ok(self.by_pair.remove(&Pair { key, kind }).is_some())
     }
-
-    /// Takes the least property out.
-    fn pop_first(&mut self) -> Option<Prop<Vec<u8>>>
-        ensures least { IfSome result (λ p. self.old ≡ p ∷ self.new) }
-        ensures none { IfNone result (self.old ≡ []) }
-    {
-        match self.by_pair.pop_first() {
-            Some((_, prop)) => Some(prop),
-            None => None,
-        }
-    }
 }
 
 /// Moves the properties of a list into a map.
@@ -165,12 +154,11 @@ pub fn mapped(alloc: Global, props: &mut Props<Vec<u8>>) -> Result<PropMap, NoMe
 }
 
 /// Moves the properties of a map behind those of an empty list.
-pub fn listed(mut map: PropMap, props: &mut Props<Vec<u8>>) -> Result<(), NoMemory>
+pub fn listed(map: PropMap, props: &mut Props<Vec<u8>>) -> Result<(), NoMemory>
     requires { props.old ≡ [] }
     ensures { OnOk result (props.new ≡ map) }
 {
-    let _ordered = &map.by_pair;
-    while let Some(prop) = map.pop_first() {
+    for prop in map.by_pair.into_values() {
         match props.insert_sorted(prop) {
             Ok(()) => {}
             Err(InsertEnd::NoMemory) => return Err(NoMemory),
