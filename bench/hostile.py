@@ -42,8 +42,8 @@ class Row(typing.NamedTuple):
     memory_bound: float
     code: int
     wrong: str
-    # Instructions at the double over those at the size; 0 where they were not counted.
-    work: float = 0
+    # Instructions at the double over those at the size, where they were counted.
+    work: float | None = None
 
     def is_short(self):
         return self.seconds < SHORT
@@ -57,9 +57,9 @@ class Row(typing.NamedTuple):
 class Bench:
     """The program, and what a run of it takes at least."""
 
-    def __init__(self, program, folder, chosen):
-        self.program, self.folder, self.runs, self.kept = program, pathlib.Path(folder), chosen.runs, chosen.keep
-        self.counts = chosen.count
+    def __init__(self, chosen, folder):
+        self.program, self.runs, self.kept, self.counts = chosen.program, chosen.runs, chosen.keep, chosen.count
+        self.folder = pathlib.Path(folder)
         self.measure = runs.Measure(folder)
         self.least_memory = {}
 
@@ -169,7 +169,7 @@ def line_of(row):
 
 
 def in_instructions(row):
-    return f" ({row.work:.2f} in instructions)" if row.work else ""
+    return f" ({row.work:.2f} in instructions)" if row.work is not None else ""
 
 
 def worst(rows, key):
@@ -242,7 +242,7 @@ def main():
              if chosen.rows else "| Shape | MiB | doubled | sha256sum | memory | ends |\n|---|---|---|---|---|---|")
     print(heads)
     with tempfile.TemporaryDirectory() as folder:
-        bench = Bench(chosen.program, folder, chosen)
+        bench = Bench(chosen, folder)
         for rows in measured_rows(bench, chosen):
             lines = [line_of(row) for row in rows] if chosen.rows else [summary(rows)] if rows else []
             print("\n".join(lines), end="\n" if lines else "", flush=True)
