@@ -19,11 +19,8 @@ const OTHER: Guid = Guid([
 ]);
 
 fn text(alloc: Global, set: Guid, units: &[u16]) -> Result<Name, Fail> {
-    let mut list = Units::with_capacity(alloc, units.len())?;
-    for unit in units {
-        list.push(*unit)?;
-    }
-    Ok(Name::of_text(alloc, set, list)?)
+    let units = Units::from_vec(units.to_vec(alloc)?);
+    Ok(Name::of_text(alloc, set, units)?)
 }
 
 fn printed(alloc: Global, key: &Key) -> Result<Vec<u8>, Fail> {

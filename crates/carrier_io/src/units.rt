@@ -29,13 +29,11 @@ impl Units {
         }
     }
 
-    /// An empty list with room for so many units. NoMemory says that memory ran out.
-    pub fn with_capacity(alloc: Global, capacity: usize) -> Result<Units, NoMemory>
-        ensures { IfOk result (λ list. list ≡ []) }
+    /// The list of these units.
+    pub fn from_vec(list: Vec<u16>) -> Units
+        ensures { result ≡ list.items }
     {
-        Ok(Units {
-            list: Vec::with_capacity(alloc, capacity)?,
-        })
+        Units { list }
     }
 
     /// Puts a unit behind the others. The list is unchanged where memory is refused.

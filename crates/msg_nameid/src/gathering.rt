@@ -103,18 +103,12 @@ fn push_units(texts: &mut Vec<u8>, units: &[u16]) -> Result<(), NoMemory>
 {
     let size = 2 * units.len();
     texts.extend_from_slice(&low_bytes(size))?;
-    for unit in units {
-        texts.extend_from_slice(&le16(*unit))?;
-    }
-    push_zeros(texts, pad4(size as u64))
-}
-
-/// Puts zeros behind bytes.
-fn push_zeros(bytes: &mut Vec<u8>, count: u64) -> Result<(), NoMemory>
-    ensures { OnOk result (bytes.new.items ≡ bytes.old.items ++ replicate count 0) }
-{
-    for _ in 0..count {
-        bytes.push(0)?;
+    let first = texts.len();
+    texts.resize(first + size + pad4(size as u64) as usize, 0)?;
+    for k in 0..units.len() {
+        let [low, high] = le16(units[k]);
+        texts[first + 2 * k] = low;
+        texts[first + 2 * k + 1] = high;
     }
     Ok(())
 }

@@ -1,3 +1,4 @@
 mod Gathered
 mod PairsOfDigits
 mod Texts
+mod UnitSteps

@@ -10,9 +10,10 @@ use std::alloc::Global;
 pub fn units_of_bytes(alloc: Global, bytes: &[u8]) -> Result<Units, NoMemory>
     ensures { IfOk result (λ units. units ≡ units_of bytes.now) }
 {
-    let mut units = Units::with_capacity(alloc, bytes.len() / 2)?;
-    for k in 0..bytes.len() / 2 {
-        units.push(u16::from_le_bytes([bytes[2 * k], bytes[2 * k + 1]]))?;
+    let mut list = Vec::new(alloc);
+    list.resize(bytes.len() / 2, 0)?;
+    for k in 0..list.len() {
+        list[k] = u16::from_le_bytes([bytes[2 * k], bytes[2 * k + 1]]);
     }
-    Ok(units)
+    Ok(Units::from_vec(list))
 }
