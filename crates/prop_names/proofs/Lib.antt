@@ -2,3 +2,4 @@ mod Gathered
 mod PairsOfDigits
 mod Texts
 mod UnitSteps
+mod SetOrder

@@ -1,5 +1,8 @@
 //! Names of properties.
-ghost use Rattle.std.specs.Prelude.{◌≡◌, ◌↔◌, IfOk};
+ghost use Rattle.std.specs.Cmp.Lexicographic.{slice_cmp};
+ghost use Rattle.std.specs.Int.{w64, from_be_bytes};
+ghost use Rattle.std.specs.Ordering.{nat_cmp};
+ghost use Rattle.std.specs.Prelude.{◌≡◌, ◌↔◌, ◌+◌, ◌≤◌, take, drop, IfOk};
 ghost use Rattle.carrier_model.specs.Keys.{name_cmp, label_cmp, set_of, texted};
 ghost use Rattle.prop_names.specs.Meaning.{name_of};
 
@@ -11,6 +14,32 @@ use std::rc::Rc;
 /// A GUID's 16 bytes as a file has them.
 #[derive(Clone, Copy, Debug, PartialEq, Eq)]
 pub struct Guid(pub [u8; 16]);
+
+/// The order of the bytes of GUIDs, eight at a time.
+fn set_order(one: &[u8; 16], other: &[u8; 16]) -> Ordering
+    ensures { result ≡ slice_cmp nat_cmp one.now other.now }
+{
+    let fronts = high_at(one, 0).cmp(&high_at(other, 0));
+    let backs = high_at(one, 8).cmp(&high_at(other, 8));
+    fronts.then(backs)
+}
+
+/// The number in the eight bytes at a place, the highest first.
+fn high_at(bytes: &[u8; 16], at: usize) -> u64
+    requires { at + 8 ≤ 16 }
+    ensures { result ≡ from_be_bytes w64 (take 8 (drop at bytes.now)) }
+{
+    u64::from_be_bytes([
+        bytes[at],
+        bytes[at + 1],
+        bytes[at + 2],
+        bytes[at + 3],
+        bytes[at + 4],
+        bytes[at + 5],
+        bytes[at + 6],
+        bytes[at + 7],
+    ])
+}
 
 /// A name in a property set: a number or a text. Most are numbers, so a text stands by itself, and a name takes no more
 /// room than a number. Copies of a name share its text, so many properties may have one long name.
@@ -68,8 +97,7 @@ impl Name {
         ensures order { result ≡ name_cmp (name_of self.now) (name_of other.now) }
         ensures equal { (result ≡ Ordering.Equal) ↔ (name_of self.now ≡ name_of other.now) }
     {
-        let sets = self.set().0.cmp(&other.set().0);
-        sets.then_with(|| self.label_order(other))
+        set_order(&self.set().0, &other.set().0).then_with(|| self.label_order(other))
     }
 
     fn label_order(&self, other: &Name) -> Ordering
