@@ -7,6 +7,7 @@ use Rattle.std.proofs.lemmas.List.Sorted.{IsPermutation-refl}
 use Rattle.std.proofs.lemmas.Option.{slice_get_read, get_or_from_slice_get}
 use Rattle.std.specs.declared.cmp.Ordering.TheVariants.{Less, Equal}
 use Rattle.carrier_io.proofs.Joined.{slice_get-append_past}
+use Rattle.carrier_model.specs.Places.{IsGap}
 use Rattle.carrier_model.specs.Sorted.{IsStrictlySorted, with_elements}
 use Rattle.carrier_model.specs.Values.{Prop, prop_cmp}
 use Rattle.carrier_model.proofs.Orders.{prop_total}
@@ -25,6 +26,20 @@ nothing_in (x ∷ xs) e = absurd (omega (arith, e))
 
 -- ---- one more
 
+-- what is above the last one is above each
+below_all : (ps : List Prop) (p : Prop) → IsStrictlySorted prop_cmp ps → IsAboveLast ps p → (i : ℕ) (d : Prop) → i < length ps → prop_cmp (get_or ps i d) p ≡ Less
+below_all ps p s above i d i_in = elim (cases_lt (i + 1) (length ps)) [
+  | inl earlier ↦
+      let n : ℕ = length ps - 1 in
+      let n_in : n < length ps = omega (arith, i_in) in
+      prop_total.trans (get_or ps i d) (get_or ps n d) p (s i n d (omega (arith, earlier)) n_in)
+      (above n (get_or ps n d) (omega (arith, i_in)) (read_at ps n d n_in))
+  | inr last ↦ above i (get_or ps i d) (omega (arith, i_in, last)) (read_at ps i d i_in)
+]
+
+pub gap_past : (ps : List Prop) (p : Prop) → IsStrictlySorted prop_cmp ps → IsAboveLast ps p → IsGap prop_cmp ps p (length ps)
+gap_past ps p s above = record { in_range = omega arith; below = λ j d lt. below_all ps p s above j d lt; above = λ j d le lt. absurd (omega (arith, le, lt)) }
+
 sorted_push : (ps : List Prop) (p : Prop) → IsStrictlySorted prop_cmp ps → IsAboveLast ps p → IsStrictlySorted prop_cmp (ps ++ p ∷ [])
 sorted_push ps p s above i j d lt in_range = elim (cases_lt j (length ps)) [
   | inl before ↦
@@ -34,18 +49,8 @@ sorted_push ps p s above i j d lt in_range = elim (cases_lt j (length ps)) [
       let last : j ≡ length ps = omega (arith, from, in_range, length-append ps (p ∷ [])) in
       let at_last : get_or (ps ++ p ∷ []) j d ≡ p = subst (λ (n : ℕ). get_or (ps ++ p ∷ []) n d ≡ p) (omega (arith, last)) (get_or-append-add ps (p ∷ []) 0 d) in
       subst (λ (q : Prop). prop_cmp (get_or (ps ++ p ∷ []) i d) q ≡ Less) (sym at_last)
-      (subst (λ (q : Prop). prop_cmp q p ≡ Less) (sym (get_or_append_left ps (p ∷ []) d i (omega (arith, lt, last)))) (below i (omega (arith, lt, last))))
+      (subst (λ (q : Prop). prop_cmp q p ≡ Less) (sym (get_or_append_left ps (p ∷ []) d i (omega (arith, lt, last)))) (below_all ps p s above i d (omega (arith, lt, last))))
 ]
-  where
-    below : (i : ℕ) → i < length ps → prop_cmp (get_or ps i d) p ≡ Less
-    below i i_in = elim (cases_lt (i + 1) (length ps)) [
-      | inl earlier ↦
-          let n : ℕ = length ps - 1 in
-          let n_in : n < length ps = omega (arith, i_in) in
-          prop_total.trans (get_or ps i d) (get_or ps n d) p (s i n d (omega (arith, earlier)) n_in)
-          (above n (get_or ps n d) (omega (arith, i_in)) (read_at ps n d n_in))
-      | inr last ↦ above i (get_or ps i d) (omega (arith, i_in, last)) (read_at ps i d i_in)
-    ]
 
 all_rise : (ps : List Prop) → RiseAtFront ps [] → IsStrictlySorted prop_cmp ps
 all_rise ps r = subst (IsStrictlySorted prop_cmp) (take_all (length ps - 0) ps (omega arith)) r.rise

@@ -1,8 +1,8 @@
 //! Properties that come in any order.
-ghost use Rattle.std.specs.Prelude.{◌≡◌, ◌∷◌, ◌++◌, ℕ, List, [], OnOk, OnErr, IfOk, IfErr, IsTrue};
+ghost use Rattle.std.specs.Prelude.{◌≡◌, ◌∷◌, ◌++◌, ℕ, List, [], OnOk, OnErr, IfOk, IfErr};
 ghost use Rattle.carrier_model.specs.Values as plain;
 ghost use Rattle.carrier_model.specs.Sorted.{with_elements};
-ghost use Rattle.prop_values.specs.Arrivals.{AreDifferent, AreMarksOf, IsDoubleOf, IsAboveLast};
+ghost use Rattle.prop_values.specs.Arrivals.{AreDifferent, AreMarksOf, IsDoubleOf};
 
 use crate::arranging::arrange;
 use crate::prop_list::Props;
@@ -68,23 +68,13 @@ impl<B: Blob> Arrivals<B> {
         let _ = self.list.reserve_exact(count);
     }
 
-    // Whether the property is above the last one, or the first.
-    fn ends_below(&self, prop: &Prop<B>) -> bool
-        ensures { IsTrue result → IsAboveLast self.now.props prop.now }
-    {
-        match self.list.last() {
-            Some(last) => last.order(prop).is_lt(),
-            None => true,
-        }
-    }
-
     /// Puts a property behind all others, with its mark. The list is unchanged where memory is refused.
     pub fn push(&mut self, prop: Prop<B>, mark: u64) -> Result<(), NoMemory>
         ensures ok { OnOk result (self.new.props ≡ self.old.props ++ prop ∷ []) }
         ensures marked { OnOk result ((marks : List ℕ) → AreMarksOf self.old marks → AreMarksOf self.new (marks ++ mark ∷ [])) }
         ensures err { OnErr result (self.new ≡ self.old) }
     {
-        if self.marks.is_empty() && self.ends_below(&prop) {
+        if self.marks.is_empty() && prop.is_above(&self.list) {
             self.list.push(prop)?;
             return Ok(());
         }

@@ -1,16 +1,16 @@
-use Rattle.std.proofs.Common.{◌≡◌, length, rules, subst, sym}
-use Rattle.prop_values.specs.Arrivals.{Came, IsAboveLast}
+use Rattle.std.proofs.Common.{◌≡◌, length, rules}
+use Rattle.prop_values.specs.Arrivals.{IsAboveLast}
 use Rattle.prop_values.proofs.Arriving.{nothing_in, risen, marked, marks_past}
 use Rattle.prop_values.proofs.arrivals.Arrivals.push.Goals as goal
 
-pub invariant_of-self-then-ends_below : goal.invariant_of-self-then-ends_below
-invariant_of-self-then-ends_below g c =
+pub invariant_of-self-then-is_above : goal.invariant_of-self-then-is_above
+invariant_of-self-then-is_above g c =
     let none : length c.self.inside.marks.items ≡ 0 = search rules in
-    let above : IsAboveLast c.args.self.now.props c.args.prop = c.ends_below.ensures c.if-ends_below.true in
-    rw c.in_ok-push.ensures.items (risen c.self.inside.list.items c.self.inside.marks.items _ (nothing_in c.self.inside.marks.items none) c.self.invariant (subst (λ (s : Came). IsAboveLast s.props c.args.prop) (sym c.self.view_is) above))
+    let above : IsAboveLast c.self.inside.list.items c.args.prop = rw c.deref.ensures.value at (c.is_above.ensures c.if-is_above.true) in
+    rw c.in_ok-push.ensures.items (risen c.self.inside.list.items c.self.inside.marks.items _ (nothing_in c.self.inside.marks.items none) c.self.invariant above)
 
-pub returns-then-ends_below-clause-marked : goal.returns-then-ends_below-clause-marked
-returns-then-ends_below-clause-marked g c =
+pub returns-then-is_above-clause-marked : goal.returns-then-is_above-clause-marked
+returns-then-is_above-clause-marked g c =
     let none : length c.self.inside.marks.items ≡ 0 = search rules in
     let empty = nothing_in c.self.inside.marks.items none in
     rw (← c.self.view_is) (marks_past _ _ _ c.args.mark empty empty c.in_ok-push.ensures.items)
