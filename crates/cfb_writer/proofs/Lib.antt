@@ -1,3 +1,4 @@
+mod BehindNames
 pub mod FileSizes
 pub mod Going
 pub mod HeaderList

@@ -1,6 +1,6 @@
 -- An entry that is looked at.
-use Rattle.std.specs.Prelude.{ℕ, List, ◌∷◌, ◌++◌, replicate, if◌then◌else◌}
-use Rattle.carrier_model.specs.Bytes.{le32}
+use Rattle.std.specs.Prelude.{ℕ, ◌+◌, ◌*◌, List, ◌∷◌, ◌++◌, replicate, if◌then◌else◌}
+use Rattle.carrier_model.specs.Bytes.{le16, le32}
 use Rattle.carrier_model.specs.Chains.{end_word}
 use Rattle.carrier_model.specs.Layout.{Slot, BLACK, name_field, is_short, is_long}
 use Rattle.cfb_list.specs.Contents.{file_seen}
@@ -16,6 +16,11 @@ slot_seen of e = slot_of (file_seen of e.file) e.left e.right e.child
 abbrev pub record_bytes : List ℕ → Fields → List ℕ
 record_bytes name f =
     name_field name ++ (f.kind ∷ BLACK ∷ (le32 f.left ++ (le32 f.right ++ (le32 f.child ++ (f.class ++ (replicate 20 0 ++ (le32 f.start ++ (le32 f.size ++ le32 0))))))))
+
+-- what stands behind a name of so many units: its length with its null, and the fields
+abbrev pub behind_name : ℕ → Fields → List ℕ
+behind_name n f =
+    le16 (2 * (n + 1)) ++ (f.kind ∷ BLACK ∷ (le32 f.left ++ (le32 f.right ++ (le32 f.child ++ (f.class ++ (replicate 20 0 ++ (le32 f.start ++ (le32 f.size ++ le32 0))))))))
 
 -- where a stream begins
 abbrev pub stream_start : Next → List ℕ → ℕ

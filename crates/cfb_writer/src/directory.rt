@@ -4,7 +4,7 @@ ghost use Rattle.std.specs.List.{flat_map, range_with_len, AllByRecursion};
 ghost use Rattle.carrier_model.specs.Bytes.{le16, le32};
 ghost use Rattle.carrier_model.specs.Layout as layout;
 ghost use Rattle.cfb_list.specs.Contents.{bytes_seen, name_seen};
-ghost use Rattle.cfb_writer.specs.Entered.{slot_seen, record_bytes, stream_start};
+ghost use Rattle.cfb_writer.specs.Entered.{slot_seen, record_bytes, behind_name, stream_start};
 ghost use Rattle.cfb_writer.specs.Laid.{bytes_of, IsShort, root_slot, slots_in, others_of};
 ghost use Rattle.cfb_writer.specs.Numbered.{plan_seen, IsSmall, IsPlanFor};
 ghost use Rattle.carrier_io.specs.Summed.{Sums};
@@ -105,21 +105,24 @@ fn back_bytes(fields: &Fields) -> [u8; 12]
     ]
 }
 
-/// Appends an entry: its name and its fields, without state bits and times. [MS-CFB 2.6.1]
+/// What stands behind an entry's name, without state bits and times.
+fn bytes_behind(name: &[u16], fields: &Fields) -> [u8; 64]
+    requires { length name.now ≤ 31 }
+    ensures { result ≡ behind_name (length name.now) fields.now }
+{
+    let mut bytes = [0u8; 64];
+    bytes[..16].copy_from_slice(&front_bytes(name, fields));
+    bytes[16..32].copy_from_slice(&fields.class);
+    bytes[52..].copy_from_slice(&back_bytes(fields));
+    bytes
+}
+
+/// Appends an entry: its name and its fields. [MS-CFB 2.6.1]
 fn append_fields<W: Sink>(sink: &mut W, name: &[u16], fields: &Fields) -> Result<u16, Failed>
     requires { length name.now ≤ 31 }
     ensures { Sums (W.held sink.old) (W.held sink.new) (W.faults sink.old) (W.faults sink.new) result (record_bytes name.now fields.now) }
 {
-    append_parts(
-        sink,
-        &[
-            &name_bytes(name),
-            &front_bytes(name, fields),
-            &fields.class,
-            &[0; 20],
-            &back_bytes(fields),
-        ],
-    )
+    append_parts(sink, &[&name_bytes(name), &bytes_behind(name, fields)])
 }
 
 /// Appends an entry whose name may end in a number.
