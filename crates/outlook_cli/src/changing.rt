@@ -10,11 +10,11 @@ ghost use Rattle.outlook_cli.specs.Outcome.{PutsChange, PutsFile, TellsChange, W
 use crate::telling::stopped;
 use carrier_io::{Blob, Sink};
 use edit_words::Edits;
-use msg_tree::Tree;
+use msg_tree::{Tree, copy_owned};
 use outlook_status::Status;
 use std::alloc::Global;
 use translate_core::{Input, PutEnd, accept, write_msg};
-use tree_edit::{EditEnd, edited};
+use tree_edit::{EditEnd, edit_owned};
 use tree_text8::{TextEnd, unicode_of};
 
 /// Writes the .msg file of a message. [MS-OXMSG 2.3]
@@ -59,7 +59,7 @@ fn write_unicode<B: Blob, O: Sink>(alloc: Global, tree: Tree<B>, output: &mut O)
     }
 }
 
-/// Writes the file of the message that edits make. The one before them is gone by then.
+/// Writes the file of the message that edits make. They are made on a copy, and what was read is gone by then.
 fn write_edited<B: Blob, O: Sink>(
     alloc: Global,
     edits: &Edits<'_>,
@@ -72,9 +72,12 @@ fn write_edited<B: Blob, O: Sink>(
     ensures no_usage { result ≡ Status.Usage → ⊥ }
     ensures no_read_fault { result ≡ Status.ReadFault → ⊥ }
 {
-    let changed = edited(alloc, &tree, edits);
+    let owned = copy_owned(alloc, &tree);
     drop(tree);
-    match changed {
+    let Ok(owned) = owned else {
+        return Status::NoMemory;
+    };
+    match edit_owned(alloc, owned, edits) {
         Ok(changed) => write_file(alloc, &changed, output),
         Err(EditEnd::Fault(fault)) => Status::Edit(fault),
         Err(EditEnd::NoMemory) => Status::NoMemory,

@@ -13,4 +13,4 @@ mod runs;
 mod whole;
 
 pub use ends::{EditEnd, EditFault, EditWhy};
-pub use whole::edited;
+pub use whole::{edit_owned, edited};

@@ -22,7 +22,19 @@ pub fn edited<B: Blob>(
     ensures done { IfOk result (λ t. edited_tree edits.now (plain_of tree.now) ≡ Ok (plain_of t)) }
     ensures refused { IfErr result (IsEndOf edits.now (plain_of tree.now)) }
 {
-    let mut message = copy_owned(alloc, tree)?.into_message();
+    edit_owned(alloc, copy_owned(alloc, tree)?, edits)
+}
+
+/// The tree that edits make of one over owned bytes, which they change in place. It ends as `edited` does.
+pub fn edit_owned(
+    alloc: Global,
+    tree: Tree<Vec<u8>>,
+    edits: &Edits<'_>,
+) -> Result<Tree<Vec<u8>>, EditEnd>
+    ensures done { IfOk result (λ t. edited_tree edits.now (plain_of tree) ≡ Ok (plain_of t)) }
+    ensures refused { IfErr result (IsEndOf edits.now (plain_of tree)) }
+{
+    let mut message = tree.into_message();
     let mut at = 0;
     let mut end = 0;
     while at < edits.len() {

@@ -5,10 +5,10 @@ use Rattle.msg_tree.specs.Keeping.{HasStores}
 use Rattle.msg_tree.specs.Meaning.{tree_of}
 use Rattle.msg_tree.specs.Whole.{plain_of}
 use Rattle.tree_edit.specs.Changes.{ChangeOnePart}
-use Rattle.tree_edit.proofs.whole.edited.Given as goal
+use Rattle.tree_edit.proofs.whole.edit_owned.Given as goal
 
 abbrev pub invariant-loop-at : goal.invariant-loop-at
-invariant-loop-at g l = (edited_from l.at (drop l.at l.edits) (tree_of (λ v. v.items) l.message) ≡ edited_tree l.edits (plain_of l.fn.tree))
+invariant-loop-at l = (edited_from l.at (drop l.at l.edits) (tree_of (λ v. v.items) l.message) ≡ edited_tree l.edits (plain_of l.fn.tree))
     × (depth (tree_of (λ v. v.items) l.message) ≤ 32)
     × HasStores (tree_of (λ v. v.items) l.message)
     × (l.at ≤ l.end)
@@ -16,4 +16,4 @@ invariant-loop-at g l = (edited_from l.at (drop l.at l.edits) (tree_of (λ v. v.
     × ChangeOnePart (take (l.end - l.at) (drop l.at l.edits))
 
 abbrev pub decreases-loop-at : goal.decreases-loop-at
-decreases-loop-at g l = length l.edits - l.at
+decreases-loop-at l = length l.edits - l.at
