@@ -1,4 +1,5 @@
 pub mod AsciiNames
+pub mod CyclicSums
 pub mod MsgMessage
 pub mod MsgProps
 pub mod MsgSteps

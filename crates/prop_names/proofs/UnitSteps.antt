@@ -1,14 +1,9 @@
 -- Units that are set one after another.
 use Rattle.std.proofs.Common.{◌≡◌, ℕ, zero, suc, ◌+◌, ◌-◌, ◌*◌, ◌/◌, ◌<◌, ◌≤◌, List, [], ◌∷◌, ◌++◌, length, get_or, set, take, replicate, refl, sym, ap, ◌∙◌, append_assoc, arith}
 use Rattle.std.proofs.lemmas.List.{append-nil, length-take-le}
+use Rattle.std.proofs.Math.Seq.{set-append_seam}
 use Rattle.carrier_model.specs.Bytes.{units_of}
 use Rattle.carrier_model.proofs.Units.{units_front, units_halve, units_whole}
-
-one_set : (front rest : List ℕ) (n a b : ℕ) → length front ≡ n → set (front ++ b ∷ rest) n a ≡ front ++ a ∷ rest
-one_set [] rest zero a b e = refl
-one_set [] rest (suc n) a b e = absurd (omega (arith, e))
-one_set (x ∷ front) rest zero a b e = absurd (omega (arith, e))
-one_set (x ∷ front) rest (suc n) a b e = ap (λ (z : List ℕ). x ∷ z) (one_set front rest n a b (omega (arith, e)))
 
 -- one more unit
 pub unit_set : (x list : List ℕ) (k u : ℕ) → list ≡ units_of (take (2 * k) x) ++ replicate (length x / 2 - k) 0 → k < length x / 2 → u ≡ get_or x (2 * k) 0 + 256 * get_or x (2 * k + 1) 0 → set list k u ≡ units_of (take (2 * (k + 1)) x) ++ replicate (length x / 2 - (k + 1)) 0
@@ -18,7 +13,8 @@ unit_set x list k u is lt e =
     let long : length front ≡ k = omega (arith, units_halve (take (2 * k) x), length-take-le (2 * k) x (omega (arith, lt))) in
     let count : length x / 2 - k ≡ suc (length x / 2 - (k + 1)) = omega (arith, lt) in
     ap (λ (l : List ℕ). set l k u) (is ∙ ap (λ (n : ℕ). front ++ replicate n 0) count)
-    ∙ one_set front left k u 0 long
+    ∙ ap (λ (n : ℕ). set (front ++ 0 ∷ left) n u) (sym long)
+    ∙ set-append_seam front 0 left u
     ∙ sym (append_assoc front (u ∷ []) left)
     ∙ ap (λ (l : List ℕ). l ++ left) (ap (λ (v : ℕ). front ++ v ∷ []) e ∙ sym (units_front x k (omega (arith, lt))))
 
