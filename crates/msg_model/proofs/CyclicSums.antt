@@ -47,6 +47,7 @@ halved : (m c : ℕ) → c ≡ m * 2 → sum_bit c ≡ m
 halved m c e = (λ i. next (even i) (half i)) where
   even : c % 2 ≡ 0
   even = omega (arith, e)
+
   half : c / 2 ≡ m
   half = omega (arith, e)
 
@@ -82,9 +83,11 @@ two_summed s low high x small large is =
     ∙ sym (xor_assoc (steps (steps (x % 256))) (steps (x / 256 % 256)) (x / 65536))
     ∙ (λ i. bit_xor (bit_xor (steps (xor_comm 0 (steps (x % 256)) i)) (steps (x / 256 % 256))) (x / 65536))
   where
-  none : (n : ℕ) → n * 256 % 256 ≡ 0
-  none n = omega arith
-  whole : (n : ℕ) → n * 256 / 256 ≡ n
-  whole n = omega arith
-  far : x / 256 / 256 ≡ x / 65536
-  far = omega arith
+    none : (n : ℕ) → n * 256 % 256 ≡ 0
+    none n = omega arith
+
+    whole : (n : ℕ) → n * 256 / 256 ≡ n
+    whole n = omega arith
+
+    far : x / 256 / 256 ≡ x / 65536
+    far = omega arith

@@ -7,5 +7,6 @@ pub mod NameLaws
 pub mod OrderLaws
 pub mod SetLists
 pub mod StreamLaws
+pub mod SumSteps
 pub mod TableLaws
 pub mod TextSteps

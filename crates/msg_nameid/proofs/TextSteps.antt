@@ -1,10 +1,10 @@
 -- The texts of names, written.
-use Rattle.std.proofs.Common.{◌≡◌, ℕ, zero, suc, ◌+◌, ◌-◌, ◌*◌, ◌%◌, ◌<◌, ◌≤◌, List, [], ◌∷◌, ◌++◌, length, take, drop, take_all, length-take, length-append, replicate, get_or, set, add-one, drop-cons, refl, sym, ap, ◌∙◌, append_assoc, arith}
+use Rattle.std.proofs.Common.{◌≡◌, ℕ, zero, suc, ◌+◌, ◌-◌, ◌*◌, ◌%◌, ◌<◌, ◌≤◌, List, [], ◌∷◌, ◌++◌, length, take, drop, take_all, length-take, length-append, replicate, get_or, set, add-one, refl, sym, ap, ◌∙◌, append_assoc, arith}
 use Rattle.std.proofs.lemmas.List.{append-nil, length-take-le, take_more}
 use Rattle.std.proofs.lemmas.List.Concat.{flat_map-append}
 use Rattle.carrier_model.specs.Bytes.{le16, le32, pad4, units_of}
 use Rattle.carrier_model.proofs.Units.{length-units, units_halve}
-use Rattle.msg_model.specs.WrittenNames.{name_units, text_entry, cyclic_sum, sum_byte}
+use Rattle.msg_model.specs.WrittenNames.{name_units, text_entry}
 
 pub text_written : (old size all new units : List ℕ) (k count : ℕ) → size ≡ le32 (2 * length units) → (2 * length units + count) % 4 ≡ 0 → count < 4 → length units ≤ k
     → all ≡ (old ++ size) ++ name_units (take k units) → new ≡ all ++ replicate count 0 → new ≡ old ++ text_entry units
@@ -57,14 +57,6 @@ all_put old texts units k count multiple least at is =
     let left : 2 * length units + count - 2 * k ≡ count = omega (arith, at) in
     text_written old size ((old ++ size) ++ name_units (take k units)) texts units k count refl multiple least (omega (arith, at)) refl
     (is ∙ ap (λ (n : ℕ). (old ++ size) ++ (name_units (take k units) ++ replicate n 0)) left ∙ sym (append_assoc (old ++ size) (name_units (take k units)) (replicate count 0)))
-
--- a sum with one unit more
-pub unit_summed : (units : List ℕ) (i s m t : ℕ) (bytes : List ℕ) → i < length units → bytes ≡ le16 (get_or units i 0) → m ≡ sum_byte s (get_or bytes 0 0) → t ≡ sum_byte m (get_or bytes 1 0) → cyclic_sum t (name_units (drop (i + 1) units)) ≡ cyclic_sum s (name_units (drop i units))
-unit_summed units i s m t bytes lt is a b =
-    let front : drop i units ≡ get_or units i 0 ∷ drop (i + 1) units = rw add-one (drop-cons units i 0 lt) in
-    let both : t ≡ sum_byte (sum_byte s (get_or bytes 0 0)) (get_or bytes 1 0) = b ∙ ap (λ c. sum_byte c (get_or bytes 1 0)) a in
-    let here : t ≡ sum_byte (sum_byte s (get_or (le16 (get_or units i 0)) 0 0)) (get_or (le16 (get_or units i 0)) 1 0) = both ∙ ap (λ (l : List ℕ). sum_byte (sum_byte s (get_or l 0 0)) (get_or l 1 0)) is in
-    ap (λ c. cyclic_sum c (name_units (drop (i + 1) units))) here ∙ ap (λ l. cyclic_sum s (name_units l)) (sym front)
 
 -- few bytes are few units
 pub few_units : (x y units : List ℕ) (n : ℕ) → x ≡ take n y → n ≤ 510 → units ≡ units_of x → length units ≤ 255

@@ -1,3 +1,4 @@
+pub mod ByteSums
 pub mod Drafts
 pub mod Gathered
 pub mod Maps

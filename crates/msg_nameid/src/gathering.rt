@@ -5,7 +5,8 @@ ghost use Rattle.msg_model.specs.WrittenNames as written;
 ghost use Rattle.msg_nameid.specs.Gathered.{nothing, with_name};
 ghost use Rattle.prop_names.specs.Meaning.{name_of};
 
-use crate::hashes::{Hashes, hash_number, push_pair};
+use crate::cyclic_sums::ByteSums;
+use crate::hashes::{Hashes, push_pair};
 use crate::sets::Sets;
 use carrier_io::{NoMemory, le16, le32, pad4};
 use prop_names::Name;
@@ -19,6 +20,7 @@ pub(crate) struct Streams {
     pub(crate) entries: Vec<u8>,
     pub(crate) texts: Vec<u8>,
     pub(crate) hashes: Hashes,
+    sums: ByteSums,
 }
 
 impl Model for Streams {
@@ -39,6 +41,7 @@ impl Streams {
             entries: Vec::new(alloc),
             texts: Vec::new(alloc),
             hashes: Hashes::new(alloc)?,
+            sums: ByteSums::new(),
         })
     }
 
@@ -54,7 +57,7 @@ impl Streams {
         let word = index * 65536 + low;
         push_pair(&mut self.entries, label(&self.texts, name), le32(word))?;
         push_text(&mut self.texts, name)?;
-        let number = hash_number(name);
+        let number = hash_number(&self.sums, name);
         self.hashes
             .push(((number ^ low) % 31) as usize, number, word)
     }
@@ -85,6 +88,16 @@ fn low_bytes(size: usize) -> [u8; 4]
     ensures { result ≡ fields.le32 size }
 {
     le32((size % 0x1_0000_0000) as u32)
+}
+
+/// What a name is hashed by: its number, or the cyclic sum of its text.
+fn hash_number(sums: &ByteSums, name: &Name) -> u32
+    ensures { result ≡ written.hash_number (name_of name.now) }
+{
+    match name {
+        Name::Number { number, .. } => *number,
+        Name::Text(text) => sums.of_units(text.units.as_slice()),
+    }
 }
 
 /// Puts the text of a name behind the others. [MS-OXMSG 2.2.3.1.3]

@@ -1,6 +1,7 @@
 //! The name map of a .msg file: for which names the ids of its named properties stand. [MS-OXMSG 2.2.3]
 #![tactic(auto)]
 
+mod cyclic_sums;
 mod drafts;
 mod entry;
 mod gathering;

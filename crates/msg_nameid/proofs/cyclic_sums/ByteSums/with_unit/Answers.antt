@@ -1,0 +1,7 @@
+use Rattle.std.proofs.Common.{◌≡◌, ◌/◌, ◌%◌, ◌+◌, ◌*◌, ◌∙◌, sym, ap, arith}
+use Rattle.std.specs.Prelude.{bit_xor}
+use Rattle.msg_nameid.proofs.SumSteps.{word_summed}
+use Rattle.msg_nameid.proofs.cyclic_sums.ByteSums.with_unit.Goals as goal
+
+pub returns : goal.returns
+returns c = word_summed c.self.inside.alone c.self.inside.before_zero c.args.sum c.args.unit c.from.result c.self.invariant (omega arith) c.from.ensures
