@@ -14,7 +14,6 @@ pub(crate) struct ByteSums {
 }
 
 impl Model for ByteSums {
-    ghost use Rattle.std.specs.Prelude.{Unit, tt};
     ghost use Rattle.msg_nameid.specs.ByteSums.{AreByteSums};
 
     ghost Value = { Unit {0} };
