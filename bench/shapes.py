@@ -115,6 +115,12 @@ def recipients(count):
     return tnef(attribute(1, 0x00069004, struct.pack("<I", count) + bytes(4 * count)))
 
 
+def recipients_of_one(count):
+    """Recipients of one property each."""
+    one = struct.pack("<I", 1) + integer(0x0C15, 1)
+    return tnef(attribute(1, 0x00069004, struct.pack("<I", count) + one * count))
+
+
 def attachments(count):
     """Attachments of one attribute each."""
     return tnef(attribute(2, 0x00069002, struct.pack("<HIHHI", 1, 0xFFFFFFFF, 0, 0, 0)) * count)
@@ -220,6 +226,7 @@ def stream_shapes():
     yield Shape("tnef names of one hash", one_bucket, 16_000, every, {})
     yield Shape("tnef long names random", functools.partial(long_names, "random"), 15_000, every, {}, tiny=False)
     yield Shape("tnef recipients", recipients, 1_000_000, every, ROW_LIMITS, "unfit Recipients")
+    yield Shape("tnef recipients, one property each", recipients_of_one, 350_000, every, ROW_LIMITS, "unfit Recipients")
     yield Shape("tnef attachments", attachments, 200_000, every, ROW_LIMITS, "unfit Attachments")
     yield Shape("tnef messages beside", messages_beside, 40_000, every, ROW_LIMITS, "unfit Attachments")
     yield Shape("tnef messages 32 deep", functools.partial(nested_messages, 32), 4 << 20, every, {}, tiny=False)
