@@ -100,18 +100,28 @@ const OF_FOUR: [Refusal; 8] = [
 ];
 
 #[test]
-fn refusals(rt: HostRuntime) -> Result<(), Fail> {
+fn refusals_of_one_number(rt: HostRuntime) -> Result<(), Fail> {
     for (change, reason, offset) in CHANGES {
         let end = refusal(rt.alloc(), &THREE, &[change], 3072)?;
         assert_eq!(rt; end, Some((reason, offset)));
     }
-    for (changes, len, end) in OF_THREE {
-        assert_eq!(rt; refusal(rt.alloc(), &THREE, changes, len)?, end);
-    }
-    for (changes, len, end) in OF_FOUR {
-        assert_eq!(rt; refusal(rt.alloc(), &FOUR, changes, len)?, end);
+    Ok(())
+}
+
+/// Each of the files of a layout has to end as the table says.
+fn end_so(alloc: Global, layout: &Layout, table: &[Refusal]) -> Result<(), Fail> {
+    for (changes, len, end) in table {
+        if refusal(alloc, layout, changes, *len)? != *end {
+            return Err("another end")?;
+        }
     }
     Ok(())
+}
+
+#[test]
+fn refusals(rt: HostRuntime) -> Result<(), Fail> {
+    end_so(rt.alloc(), &THREE, &OF_THREE)?;
+    end_so(rt.alloc(), &FOUR, &OF_FOUR)
 }
 
 /// The class of the root and of the storage of the names.

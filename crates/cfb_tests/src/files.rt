@@ -96,10 +96,10 @@ const NAMES: [(usize, &str); 6] = [
     (640, "__properties_version1.0"),
 ];
 
-/// Writes a number in four bytes.
+/// Writes a number, where there are four bytes for it.
 pub fn put_word(slot: &mut [u8], word: u32) {
-    for (place, byte) in slot.iter_mut().zip(word.to_le_bytes()) {
-        *place = byte;
+    if slot.len() == 4 {
+        slot.copy_from_slice(&word.to_le_bytes());
     }
 }
 
