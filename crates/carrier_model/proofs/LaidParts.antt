@@ -1,5 +1,5 @@
 -- The parts of a file that is laid out: how long they are, and where they lie.
-use Rattle.std.proofs.Common.{◌≡◌, ℕ, ◌+◌, ◌-◌, ◌*◌, ◌/◌, ◌≤◌, List, [], ◌∷◌, ◌++◌, length, map, replicate, min, refl, sym, ◌∙◌, ap, subst, arith, mul-zero}
+use Rattle.std.proofs.Common.{◌≡◌, ℕ, zero, suc, ◌+◌, ◌-◌, ◌*◌, ◌/◌, ◌≤◌, List, [], ◌∷◌, ◌++◌, length, map, replicate, set, min, refl, sym, ◌∙◌, ap, subst, arith, mul-zero}
 use Rattle.std.specs.List.{range_with_len, flat_map, AllByRecursion}
 use Rattle.std.specs.Int.{div_ceil}
 use Rattle.std.proofs.lemmas.List.{length-append, length-replicate}
@@ -14,6 +14,13 @@ use Rattle.carrier_model.specs.Tables.{difat_count}
 use Rattle.carrier_model.proofs.LaidBytes.{Lies, lies-whole, lies-front, lies-back}
 use Rattle.carrier_model.proofs.LaidTables.{words-length, run-length, streams-length}
 use Rattle.carrier_model.proofs.Sizes.{SizeOf, size_least, words_fill, all_words, all_entries, ceil_holds}
+
+-- two zeros behind others, set
+pub two_set : (front rest : List ℕ) (n a b : ℕ) → length front ≡ n → set (set (front ++ 0 ∷ 0 ∷ rest) n a) (suc n) b ≡ front ++ a ∷ b ∷ rest
+two_set [] rest zero a b e = refl
+two_set [] rest (suc n) a b e = absurd (omega (arith, e))
+two_set (x ∷ front) rest zero a b e = absurd (omega (arith, e))
+two_set (x ∷ front) rest (suc n) a b e = ap (λ (z : List ℕ). x ∷ z) (two_set front rest n a b (omega (arith, e)))
 
 -- two lists of known lengths
 pub joined : (x y : List ℕ) {m n : ℕ} → length x ≡ m → length y ≡ n → length (x ++ y) ≡ m + n

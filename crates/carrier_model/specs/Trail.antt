@@ -18,7 +18,7 @@ abbrev pub first_fault : List Test → Option Fault
 first_fault [] = None
 first_fault (t ∷ ts) = if t.holds then first_fault ts else Some (t.reason, t.offset)
 
--- Bytes mean at most one thing, or have one first fault, and not both.
+-- Bytes mean at most one thing and have at most one first fault, and never both.
 pub record IsExact {X : Type 0} (means : X → Type 0) (first : Fault → Type 0) : Type 0 where
   pub one : (x y : X) → means x → means y → y ≡ x
   pub single : (g h : Fault) → first g → first h → h ≡ g

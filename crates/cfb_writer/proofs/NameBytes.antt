@@ -1,17 +1,11 @@
 -- A name's field, one unit after the other.
-use Rattle.std.proofs.Common.{◌≡◌, ℕ, zero, suc, ◌+◌, ◌-◌, ◌*◌, ◌<◌, ◌≤◌, List, [], ◌∷◌, ◌++◌, length, get_or, set, take, replicate, refl, sym, ap, ◌∙◌, add-one, append_assoc, arith}
+use Rattle.std.proofs.Common.{◌≡◌, ℕ, suc, ◌+◌, ◌-◌, ◌*◌, ◌<◌, ◌≤◌, List, [], ◌∷◌, ◌++◌, length, get_or, set, take, replicate, sym, ap, ◌∙◌, add-one, append_assoc, arith}
 use Rattle.std.specs.List.{flat_map}
 use Rattle.std.proofs.lemmas.List.{append-nil, length-take-le, take_more}
 use Rattle.std.proofs.lemmas.List.Concat.{flat_map-append}
 use Rattle.carrier_model.specs.Bytes.{le16}
 use Rattle.carrier_model.specs.Layout.{name_field}
-use Rattle.carrier_model.proofs.LaidParts.{units-length}
-
-two_set : (front rest : List ℕ) (n a b : ℕ) → length front ≡ n → set (set (front ++ 0 ∷ 0 ∷ rest) n a) (suc n) b ≡ front ++ a ∷ b ∷ rest
-two_set [] rest zero a b e = refl
-two_set [] rest (suc n) a b e = absurd (omega (arith, e))
-two_set (x ∷ front) rest zero a b e = absurd (omega (arith, e))
-two_set (x ∷ front) rest (suc n) a b e = ap (λ (z : List ℕ). x ∷ z) (two_set front rest n a b (omega (arith, e)))
+use Rattle.carrier_model.proofs.LaidParts.{two_set, units-length}
 
 -- one more unit
 pub unit_more : (name bytes unit : List ℕ) (k : ℕ) → bytes ≡ flat_map le16 (take k name) ++ replicate (64 - 2 * k) 0 → unit ≡ le16 (get_or name k 0) → k < length name → length name ≤ 31 → set (set bytes (2 * k) (get_or unit 0 0)) (2 * k + 1) (get_or unit 1 0) ≡ flat_map le16 (take (k + 1) name) ++ replicate (64 - 2 * (k + 1)) 0

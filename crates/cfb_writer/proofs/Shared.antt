@@ -1,7 +1,8 @@
 -- The streams of a share, one entry after the other.
-use Rattle.std.proofs.Common.{◌≡◌, ℕ, ◌+◌, Bool, true, false, List, [], ◌∷◌, ◌++◌, length, drop, map, refl, sym, ap, ◌∙◌, arith}
+use Rattle.std.proofs.Common.{◌≡◌, ℕ, suc, ◌+◌, ◌-◌, ◌*◌, ◌<◌, ◌≤◌, Bool, true, false, List, [], ◌∷◌, ◌++◌, length, drop, map, replicate, refl, sym, ap, ◌∙◌, arith}
 use Rattle.std.specs.Prelude.{cond, slice_get, Some}
 use Rattle.std.specs.List.{flat_map}
+use Rattle.std.proofs.lemmas.Grind.{div_ceil_times}
 use Rattle.std.proofs.lemmas.List.{drop_more}
 use Rattle.std.proofs.lemmas.List.Concat.{flat_map-append}
 use Rattle.std.proofs.lemmas.List.Sums.{sum_by-cons}
@@ -45,6 +46,34 @@ bytes_then share size left s others at = ap (λ (x : List Slot). flat_map (fille
     by : (b : Bool) → flat_map (filled size) (cond b (s.bytes ∷ streams_of share others) (streams_of share others)) ≡ cond b (filled size s.bytes) [] ++ flat_map (filled size) (streams_of share others)
     by true = refl
     by false = refl
+
+-- ---- a share that has no pieces
+
+none_both : (size : ℕ) (x : List ℕ) (xs : List (List ℕ)) → 0 ≡ all_pieces size (x ∷ xs) → (pieces size x ≡ 0) × (0 ≡ all_pieces size xs)
+none_both size x xs none =
+    let both : all_pieces size (x ∷ xs) ≡ pieces size x + all_pieces size xs = sum_by-cons (λ k. k) (pieces size x) (map (pieces size) xs) in
+    (omega (arith, none, both), omega (arith, none, both))
+
+pub no_words : (size start : ℕ) (xs : List (List ℕ)) → 0 ≡ all_pieces size xs → stream_words size start xs ≡ []
+no_words size start [] none = refl
+no_words size start (x ∷ xs) none =
+    let parts = none_both size x xs none in
+    ap (λ (n : ℕ). run_words start n ++ stream_words size (start + n) xs) parts.0 ∙ no_words size (start + 0) xs parts.1
+
+none_filled : (size : ℕ) (x : List ℕ) → 0 < size → pieces size x ≡ 0 → filled size x ≡ []
+none_filled size [] some none =
+    let zero_all : pieces size [] * size ≡ 0 = ap (λ (n : ℕ). n * size) none ∙ omega arith in
+    ap (λ (n : ℕ). replicate {A = ℕ} (n - 0) 0) zero_all
+none_filled size (y ∷ ys) some none =
+    let few : suc (length ys) ≤ pieces size (y ∷ ys) * size = (div_ceil_times (suc (length ys)) size some).0 in
+    let zero_all : pieces size (y ∷ ys) * size ≡ 0 = ap (λ (n : ℕ). n * size) none ∙ omega arith in
+    absurd (omega (arith, few, zero_all))
+
+pub no_bytes : (size : ℕ) (xs : List (List ℕ)) → 0 < size → 0 ≡ all_pieces size xs → flat_map (filled size) xs ≡ []
+no_bytes size [] some none = refl
+no_bytes size (x ∷ xs) some none =
+    let parts = none_both size x xs none in
+    ap (λ (front : List ℕ). front ++ flat_map (filled size) xs) (none_filled size x some parts.0) ∙ no_bytes size xs some parts.1
 
 moved : (b : Bool) (m n : ℕ) → cond b (m + n) m ≡ m + cond b n 0
 moved true m n = refl

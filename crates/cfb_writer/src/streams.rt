@@ -91,19 +91,25 @@ fn append_shared<B: Blob, W: Sink>(
     }
 }
 
-/// Appends the chains of the streams of a share, the first of which begins at this sector.
+/// Appends the chains of the streams of a share, the first of which begins at this sector, and which have so many pieces
+/// in all.
 pub fn append_chains<B: Blob, W: Sink>(
     sink: &mut W,
     entries: &Entries<'_, B>,
     share: Share,
     size: u64,
     start: u32,
+    count: u32,
 ) -> Result<u16, Failed>
     requires some { 64 ≤ size }
     requires small { size ≤ 4096 }
-    requires few { start + shares.share_total share size entries.now.others ≤ 2147483648 }
+    requires all { count ≡ shares.share_total share size entries.now.others }
+    requires few { start + count ≤ 2147483648 }
     ensures { Sums (W.held sink.old) (W.held sink.new) (W.faults sink.old) (W.faults sink.new) result (layout.words_bytes (layout.stream_words size start (shares.streams_of share entries.now.others))) }
 {
+    if count == 0 {
+        return Ok(0);
+    }
     let mut next = start;
     let mut sum = 0u16;
     for k in 0..entries.len() {
@@ -114,17 +120,22 @@ pub fn append_chains<B: Blob, W: Sink>(
     Ok(sum)
 }
 
-/// Appends the streams of a share, each with zeros up to whole pieces.
+/// Appends the streams of a share, each with zeros up to whole pieces, which are so many in all.
 pub fn append_streams<B: Blob, W: Sink>(
     sink: &mut W,
     entries: &Entries<'_, B>,
     share: Share,
     size: u64,
+    count: u32,
 ) -> Result<u16, Failed>
     requires some { 64 ≤ size }
     requires few { size ≤ 4096 }
+    requires all { count ≡ shares.share_total share size entries.now.others }
     ensures { Sums (W.held sink.old) (W.held sink.new) (W.faults sink.old) (W.faults sink.new) result (flat_map (layout.filled size) (shares.streams_of share entries.now.others)) }
 {
+    if count == 0 {
+        return Ok(0);
+    }
     let mut sum = 0u16;
     for k in 0..entries.len() {
         let entry = entries.entry(k);

@@ -55,6 +55,7 @@ pub fn append_fat<B: Blob, W: Sink>(
         Share::Long,
         version.sector(),
         numbers.long_start(),
+        numbers.long,
     )?;
     let words = version.words() as u32 * numbers.fat;
     let free = append_run(
@@ -76,7 +77,14 @@ pub fn append_mini_fat<B: Blob, W: Sink>(
     requires plan { IsPlanFor (sector_of version) (plan_seen numbers.now) (slots_in entries.now) }
     ensures { Sums (W.held sink.old) (W.held sink.new) (W.faults sink.old) (W.faults sink.new) result (layout.words_bytes (layout.mini_table_of (sector_of version) (plan_seen numbers.now) (slots_in entries.now))) }
 {
-    let chains = append_chains(sink, entries, Share::Short, MINI_SECTOR, 0)?;
+    let chains = append_chains(
+        sink,
+        entries,
+        Share::Short,
+        MINI_SECTOR,
+        0,
+        numbers.mini_sectors,
+    )?;
     let words = version.words() as u32 * numbers.mini_fat;
     let free = append_run(sink, Run::Same(FREE_SECTOR), words - numbers.mini_sectors)?;
     Ok(chains.wrapping_add(free))

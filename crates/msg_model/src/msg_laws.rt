@@ -38,7 +38,7 @@ pub fn messages_of_files_are_exact()
     ensures only { (root : Files) (m : Meaning) → FilesMean root m → files_meaning root ≡ Ok m }
 {}
 
-/// Files mean at most one message, or have one first fault, and not both.
+/// Files mean at most one message and have at most one first fault, and never both.
 pub fn files_mean_one_message()
     ensures { (root : Files) → IsExact (FilesMean root) (λ g. files_meaning root ≡ Err g) }
 {}

@@ -1,9 +1,8 @@
 -- Steps of sums over units and of the sums of bytes.
-use Rattle.std.proofs.Common.{◌≡◌, ◌⊎◌, inl, inr, ℕ, zero, suc, ◌+◌, ◌*◌, ◌/◌, ◌%◌, ◌<◌, List, [], ◌∷◌, length, drop, get_or, set, add-one, drop-cons, refl, sym, ap, subst, ◌∙◌, arith}
+use Rattle.std.proofs.Common.{◌≡◌, ◌⊎◌, inl, inr, ℕ, ◌+◌, ◌*◌, ◌/◌, ◌%◌, ◌<◌, List, ◌∷◌, length, drop, get_or, set, add-one, drop-cons, sym, ap, subst, ◌∙◌, arith}
 use Rattle.std.specs.Prelude.{bit_xor}
 use Rattle.std.proofs.lemmas.List.{get_or-set_same, get_or-set_other}
 use Rattle.std.proofs.Math.Nat.{eq-or-lt_of_le}
-use Rattle.carrier_model.specs.Bytes.{le16}
 use Rattle.msg_model.specs.WrittenNames.{name_units, cyclic_sum, sum_byte}
 use Rattle.msg_model.proofs.CyclicSums.{two_summed}
 use Rattle.msg_nameid.specs.ByteSums.{AreByteSums}

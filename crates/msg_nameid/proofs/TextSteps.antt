@@ -1,8 +1,9 @@
 -- The texts of names, written.
-use Rattle.std.proofs.Common.{◌≡◌, ℕ, zero, suc, ◌+◌, ◌-◌, ◌*◌, ◌%◌, ◌<◌, ◌≤◌, List, [], ◌∷◌, ◌++◌, length, take, drop, take_all, length-take, length-append, replicate, get_or, set, add-one, refl, sym, ap, ◌∙◌, append_assoc, arith}
+use Rattle.std.proofs.Common.{◌≡◌, ℕ, suc, ◌+◌, ◌-◌, ◌*◌, ◌%◌, ◌<◌, ◌≤◌, List, [], ◌∷◌, ◌++◌, length, take, take_all, length-take, length-append, replicate, get_or, set, add-one, refl, sym, ap, ◌∙◌, append_assoc, arith}
 use Rattle.std.proofs.lemmas.List.{append-nil, length-take-le, take_more}
 use Rattle.std.proofs.lemmas.List.Concat.{flat_map-append}
 use Rattle.carrier_model.specs.Bytes.{le16, le32, pad4, units_of}
+use Rattle.carrier_model.proofs.LaidParts.{two_set}
 use Rattle.carrier_model.proofs.Units.{length-units, units_halve}
 use Rattle.msg_model.specs.WrittenNames.{name_units, text_entry}
 
@@ -17,12 +18,6 @@ text_written old size all new units k count s multiple least le a n =
     ∙ (append_assoc old (size ++ name_units units) (replicate count 0)
     ∙ (ap (λ l. old ++ l) (append_assoc size (name_units units) (replicate count 0))
     ∙ (λ i. old ++ (head i ++ (name_units units ++ replicate (zeros i) 0))))))
-
-two_set : (front rest : List ℕ) (n a b : ℕ) → length front ≡ n → set (set (front ++ 0 ∷ 0 ∷ rest) n a) (suc n) b ≡ front ++ a ∷ b ∷ rest
-two_set [] rest zero a b e = refl
-two_set [] rest (suc n) a b e = absurd (omega (arith, e))
-two_set (x ∷ front) rest zero a b e = absurd (omega (arith, e))
-two_set (x ∷ front) rest (suc n) a b e = ap (λ (z : List ℕ). x ∷ z) (two_set front rest n a b (omega (arith, e)))
 
 -- zeros behind others
 pub zeros_put : (front was now : List ℕ) (first m size count n : ℕ) → was ≡ front → first ≡ length front → first ≡ m → count ≡ n → now ≡ take (first + size + count) was ++ replicate (first + size + count - m) 0 → now ≡ front ++ replicate (size + n - 0) 0

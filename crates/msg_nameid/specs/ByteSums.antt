@@ -1,5 +1,5 @@
 -- The cyclic sums of all bytes.
-use Rattle.std.specs.Prelude.{◌≡◌, ℕ, ◌<◌, List, length, get_or}
+use Rattle.std.specs.Prelude.{◌≡◌, ℕ, ◌<◌, List, get_or}
 use Rattle.msg_model.specs.WrittenNames.{sum_byte}
 
 -- the sum of each byte, and the sum of each byte with a zero behind it

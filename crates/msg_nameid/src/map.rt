@@ -97,11 +97,13 @@ impl NameMap {
         }
     }
 
-    /// The least id of a name; None where it has none.
-    pub fn id_of(&self, name: &Name) -> Option<u16>
+    /// The least id of a name; None where it has none. It is found at once where the id was guessed and names have ids
+    /// in their order, and sooner where the guess is near.
+    pub fn id_of(&self, name: &Name, guess: u16) -> Option<u16>
         ensures least { IsLeastId self.now (name_of name.now) result }
         ensures assigned { IsAssigned self.now → Contains (names_in self.now) (name_of name.now) → result ≡ Some (keys.id_of (names_in self.now) (name_of name.now)) }
     {
-        least_id(&self.entries, &self.order, name)
+        let place = usize::from(guess).saturating_sub(0x8000);
+        least_id(&self.entries, &self.order, name, place)
     }
 }

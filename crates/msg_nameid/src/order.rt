@@ -81,30 +81,50 @@ fn entry_by<'e>(entries: &'e [Entry], order: &[u16], k: usize) -> &'e Entry
     &entries[usize::from(order[k])]
 }
 
-/// How many entries of an order have names below a name.
-fn count_below(entries: &[Entry], order: &[u16], name: &Name) -> usize
+/// Where to look among the places from one up to another: at a guess that is one of them, else in their middle.
+fn probe(low: usize, high: usize, guess: usize) -> usize
+    requires { low < high }
+    ensures within { (low ≤ result) × (result < high) }
+    ensures guessed { low ≤ guess → guess < high → result ≡ guess }
+{
+    if low <= guess && guess < high {
+        guess
+    } else {
+        low + (high - low) / 2
+    }
+}
+
+/// How many entries of an order have names below a name. It looks at a guess first, and then farther and farther from
+/// it.
+fn count_below(entries: &[Entry], order: &[u16], name: &Name, guess: usize) -> usize
     requires { IsOrderOf (map pair_of entries.now) order.now }
     ensures { IsFrontOf (map pair_of entries.now) order.now (name_of name.now) result }
 {
     let mut low = 0;
     let mut high = order.len();
+    let mut guess = guess;
+    let mut step = 1usize;
     while low < high {
-        let middle = low + (high - low) / 2;
-        if entry_by(entries, order, middle).name.order(name).is_lt() {
-            low = middle + 1;
+        let place = probe(low, high, guess);
+        let distance = step;
+        step = distance.saturating_mul(2);
+        if entry_by(entries, order, place).name.order(name).is_lt() {
+            low = place + 1;
+            guess = place.saturating_add(distance);
         } else {
-            high = middle;
+            high = place;
+            guess = place.saturating_sub(distance);
         }
     }
     low
 }
 
-/// The least id of a name, if it has one.
-pub fn least_id(entries: &[Entry], order: &[u16], name: &Name) -> Option<u16>
+/// The least id of a name, if it has one, which is looked for near a guess of its place in the order.
+pub fn least_id(entries: &[Entry], order: &[u16], name: &Name, guess: usize) -> Option<u16>
     requires { IsOrderOf (map pair_of entries.now) order.now }
     ensures { IsLeastId (map pair_of entries.now) (name_of name.now) result }
 {
-    let at = count_below(entries, order, name);
+    let at = count_below(entries, order, name, guess);
     if at >= order.len() {
         return None;
     }

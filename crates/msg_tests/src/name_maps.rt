@@ -89,7 +89,7 @@ fn holds(fact: bool, what: &'static str) -> Result<(), Fail> {
 /// Whether an id stands for the name and is the least one that does.
 fn is_pair(map: &NameMap, id: u16, name: &Name) -> bool {
     match map.name_of(id) {
-        Some(found) => found.order(name).is_eq() && map.id_of(name) == Some(id),
+        Some(found) => found.order(name).is_eq() && map.id_of(name, id) == Some(id),
         None => false,
     }
 }
@@ -145,7 +145,7 @@ fn ids_of_names(rt: HostRuntime) -> Result<(), Fail> {
     let map = map_of(rt.alloc(), &NUMBER)?;
     holds(is_pair(&map, 0x8000, &NUMBER), "no number")?;
     let other = two_letters(rt.alloc())?;
-    holds(map.id_of(&other).is_none(), "a text")
+    holds(map.id_of(&other, 0x8000).is_none(), "a text")
 }
 
 /// A name and the bytes of a stream.

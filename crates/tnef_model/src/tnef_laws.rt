@@ -13,12 +13,12 @@ ghost use Rattle.carrier_model.specs.Tree.{Message, names_of};
 ghost use Rattle.carrier_model.specs.Trees.{IsPropList, IsTree};
 ghost use Rattle.carrier_model.specs.Values.{Prop};
 
-/// A stream is one list of attributes, or has one first fault, and not both.
+/// A stream is at most one list of attributes and has at most one first fault, and never both.
 pub fn attributes_are_exact()
     ensures { (at : ℕ) (bytes : List ℕ) → IsExact (Attrs at bytes) (AttrsFault at bytes) }
 {}
 
-/// Bytes begin with one property list, or have one first fault, and not both.
+/// Bytes begin with at most one property list and have at most one first fault, and never both.
 pub fn property_lists_are_exact()
     ensures { (in_attachment : Bool) (at : ℕ) (bytes : List ℕ) → IsExact (Means (prop_list in_attachment) at bytes) ((prop_list in_attachment).fails at bytes) }
 {}

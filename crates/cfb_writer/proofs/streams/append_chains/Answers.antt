@@ -1,12 +1,18 @@
-use Rattle.std.proofs.Common.{◌≡◌, ◌+◌, ◌∷◌, drop, refl, ap, arith}
+use Rattle.std.proofs.Common.{◌≡◌, ◌+◌, ◌∷◌, drop, refl, sym, ap, arith}
 use Rattle.carrier_model.specs.Layout.{words_bytes, stream_words, run_words}
+use Rattle.carrier_io.proofs.Summed.{sums_nothing}
 use Rattle.cfb_list.specs.Contents.{name_seen}
 use Rattle.cfb_writer.specs.Entered.{slot_seen}
 use Rattle.cfb_writer.specs.Laid.{bytes_of}
 use Rattle.cfb_writer.specs.Shares.{streams_of, share_pieces, share_total}
-use Rattle.cfb_writer.proofs.Going.{going_start, going_more, going_stops}
-use Rattle.cfb_writer.proofs.Shared.{entry_then, words_then, total_then}
+use Rattle.cfb_writer.proofs.Going.{as_bytes, going_start, going_more, going_stops}
+use Rattle.cfb_writer.proofs.Shared.{no_words, entry_then, words_then, total_then}
 use Rattle.cfb_writer.proofs.streams.append_chains.Goals as goal
+
+pub returns-then-count-eq0 : goal.returns-then-count-eq0
+returns-then-count-eq0 g c =
+    let streams = streams_of c.args.share c.args.entries.now.others in
+    as_bytes (sym (ap words_bytes (no_words c.args.size c.args.start streams (omega (arith, c.requires.all))))) (sums_nothing (g.W.Sink.held c.args.sink.now) (g.W.Sink.faults c.args.sink.now))
 
 pub loop-k-init : goal.loop-k-init
 loop-k-init g c = (going_start (g.W.Sink.held c.args.sink.now) (g.W.Sink.faults c.args.sink.now) (words_bytes (stream_words c.args.size c.args.start (streams_of c.args.share c.args.entries.now.others))), refl)
@@ -21,7 +27,7 @@ overflow_cast-pieces g c =
     let at : drop k others ≡ s ∷ drop (k + 1) others = entry_then others k s c.entry.ensures in
     let is : n ≡ share_pieces c.args.share c.args.size (bytes_of s) = c.pieces_of-pieces.ensures (name_seen e.file.name) e.left e.right e.child in
     let total : share_total c.args.share c.args.size (drop k others) ≡ n + share_total c.args.share c.args.size (drop (k + 1) others) = omega (arith, is, ap (share_total c.args.share c.args.size) at, total_then c.args.share c.args.size s (drop (k + 1) others)) in
-    omega (arith, c.loop-k.invariant.1, total, c.requires.few)
+    omega (arith, c.loop-k.invariant.1, total, c.requires.few, c.requires.all)
 
 pub append_run-requires : goal.append_run-requires
 append_run-requires g c =
@@ -33,7 +39,7 @@ append_run-requires g c =
     let at : drop k others ≡ s ∷ drop (k + 1) others = entry_then others k s c.entry.ensures in
     let is : n ≡ share_pieces c.args.share c.args.size (bytes_of s) = c.pieces_of-pieces.ensures (name_seen e.file.name) e.left e.right e.child in
     let total : share_total c.args.share c.args.size (drop k others) ≡ n + share_total c.args.share c.args.size (drop (k + 1) others) = omega (arith, is, ap (share_total c.args.share c.args.size) at, total_then c.args.share c.args.size s (drop (k + 1) others)) in
-    omega (arith, c.loop-k.invariant.1, total, c.requires.few)
+    omega (arith, c.loop-k.invariant.1, total, c.requires.few, c.requires.all)
 
 pub overflow_add-next : goal.overflow_add-next
 overflow_add-next g c =
@@ -45,7 +51,7 @@ overflow_add-next g c =
     let at : drop k others ≡ s ∷ drop (k + 1) others = entry_then others k s c.entry.ensures in
     let is : n ≡ share_pieces c.args.share c.args.size (bytes_of s) = c.pieces_of-pieces.ensures (name_seen e.file.name) e.left e.right e.child in
     let total : share_total c.args.share c.args.size (drop k others) ≡ n + share_total c.args.share c.args.size (drop (k + 1) others) = omega (arith, is, ap (share_total c.args.share c.args.size) at, total_then c.args.share c.args.size s (drop (k + 1) others)) in
-    omega (arith, c.loop-k.invariant.1, total, c.requires.few)
+    omega (arith, c.loop-k.invariant.1, total, c.requires.few, c.requires.all)
 
 pub returns-in_err-sum : goal.returns-in_err-sum
 returns-in_err-sum g c =

@@ -1,4 +1,4 @@
-use Rattle.std.proofs.Common.{◌≡◌, ◌∙◌, ◌+◌, ◌-◌, ◌/◌, ◌<◌, length, true, false, map, sym, ap, arith}
+use Rattle.std.proofs.Common.{◌≡◌, ◌∙◌, ◌<◌, length, true, false, map, sym, ap, arith}
 use Rattle.std.specs.Ordering.{is_lt}
 use Rattle.carrier_model.specs.Keys.{name_cmp}
 use Rattle.msg_model.specs.NameMap.{Pair}
@@ -14,7 +14,7 @@ loop-low-preserved-then-is_lt c =
     let order = c.args.order.now in
     let name = name_of c.args.name.now in
     let l = c.loop-low in
-    let m = l.low + (l.high - l.low) / 2 in
+    let m = c.probe-place.result in
     let within : m < length order = omega (arith, c.loop-low-test.true, l.invariant.within) in
     let below : is_lt (name_cmp (pair_by pairs order m).1 name) ≡ true =
     ap (λ (p : Pair). is_lt (name_cmp p.1 name)) (sym c.entry_by.ensures) ∙ (ap is_lt (sym c.order.ensures.order) ∙ (sym c.is_lt.ensures ∙ c.if-is_lt.true)) in
@@ -31,7 +31,7 @@ loop-low-preserved c =
     let order = c.args.order.now in
     let name = name_of c.args.name.now in
     let l = c.loop-low in
-    let m = l.low + (l.high - l.low) / 2 in
+    let m = c.probe-place.result in
     let above : is_lt (name_cmp (pair_by pairs order m).1 name) ≡ false =
     ap (λ (p : Pair). is_lt (name_cmp p.1 name)) (sym c.entry_by.ensures) ∙ (ap is_lt (sym c.order.ensures.order) ∙ (sym c.is_lt.ensures ∙ c.if-is_lt.false)) in
     record {

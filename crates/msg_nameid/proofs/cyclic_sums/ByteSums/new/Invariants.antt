@@ -1,4 +1,4 @@
-use Rattle.std.proofs.Common.{◌≡◌, ℕ, length}
+use Rattle.std.proofs.Common.{◌≡◌, length}
 use Rattle.msg_model.specs.WrittenNames.{sum_byte}
 use Rattle.msg_nameid.proofs.SumSteps.{Has}
 use Rattle.msg_nameid.proofs.cyclic_sums.ByteSums.new.Given as goal

@@ -1,5 +1,4 @@
-use Rattle.std.proofs.Common.{◌≡◌, ◌/◌, ◌%◌, ◌+◌, ◌*◌, ◌∙◌, sym, ap, arith}
-use Rattle.std.specs.Prelude.{bit_xor}
+use Rattle.std.proofs.Common.{arith}
 use Rattle.msg_nameid.proofs.SumSteps.{word_summed}
 use Rattle.msg_nameid.proofs.cyclic_sums.ByteSums.with_unit.Goals as goal
 
