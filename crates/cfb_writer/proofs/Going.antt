@@ -2,7 +2,7 @@
 use Rattle.std.proofs.Common.{◌≡◌, ℕ, ◌+◌, ◌%◌, ◌<◌, List, [], ◌++◌, length, get_or, drop, Option, Result, Ok, Err, refl, sym, ap, subst, ◌∙◌, append_assoc}
 use Rattle.std.specs.Result.{IsErr}
 use Rattle.std.specs.List.{flat_map}
-use Rattle.std.proofs.lemmas.List.{drop_more}
+use Rattle.std.proofs.lemmas.List.{append-nil, drop_more}
 use Rattle.std.proofs.lemmas.List.Concat.{flat_map-append}
 use Rattle.carrier_model.specs.Bytes.{le32}
 use Rattle.carrier_model.specs.Layout.{words_bytes}
@@ -35,3 +35,7 @@ words_then f xs k d lt = ap words_bytes (item_then f xs k d lt) ∙ flat_map-app
 -- the same bytes in another form
 pub as_bytes : {a b : Option (List ℕ)} {n m : ℕ} {r : Result ℕ Failed} {x y : List ℕ} → x ≡ y → Sums {E = Failed} a b n m r x → Sums {E = Failed} a b n m r y
 as_bytes {a} {b} {n} {m} {r} e p = subst (λ (z : List ℕ). Sums {E = Failed} a b n m r z) e p
+
+-- nothing is to come
+pub going_done : {a b : Option (List ℕ)} {n m s : ℕ} {all rest : List ℕ} → rest ≡ [] → Going a b n m s all rest → Sums {E = Failed} a b n m (Ok s) all
+going_done e g = as_bytes (sym (g.parts ∙ ap (λ (z : List ℕ). g.front ++ z) e ∙ append-nil g.front)) g.sums

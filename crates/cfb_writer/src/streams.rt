@@ -92,7 +92,7 @@ fn append_shared<B: Blob, W: Sink>(
 }
 
 /// Appends the chains of the streams of a share, the first of which begins at this sector, and which have so many pieces
-/// in all.
+/// in all. What stands behind the last of them is not looked at.
 pub fn append_chains<B: Blob, W: Sink>(
     sink: &mut W,
     entries: &Entries<'_, B>,
@@ -107,12 +107,13 @@ pub fn append_chains<B: Blob, W: Sink>(
     requires few { start + count ≤ 2147483648 }
     ensures { Sums (W.held sink.old) (W.held sink.new) (W.faults sink.old) (W.faults sink.new) result (layout.words_bytes (layout.stream_words size start (shares.streams_of share entries.now.others))) }
 {
-    if count == 0 {
-        return Ok(0);
-    }
+    let end = start + count;
     let mut next = start;
     let mut sum = 0u16;
     for k in 0..entries.len() {
+        if next == end {
+            return Ok(sum);
+        }
         let pieces = pieces_of(&entries.entry(k).file.kind, share, size) as u32;
         sum = sum.wrapping_add(append_run(sink, Run::Chain(next), pieces)?);
         next += pieces;
@@ -120,7 +121,8 @@ pub fn append_chains<B: Blob, W: Sink>(
     Ok(sum)
 }
 
-/// Appends the streams of a share, each with zeros up to whole pieces, which are so many in all.
+/// Appends the streams of a share, each with zeros up to whole pieces, which are so many in all. What stands behind the last
+/// of them is not looked at.
 pub fn append_streams<B: Blob, W: Sink>(
     sink: &mut W,
     entries: &Entries<'_, B>,
@@ -133,13 +135,15 @@ pub fn append_streams<B: Blob, W: Sink>(
     requires all { count ≡ shares.share_total share size entries.now.others }
     ensures { Sums (W.held sink.old) (W.held sink.new) (W.faults sink.old) (W.faults sink.new) result (flat_map (layout.filled size) (shares.streams_of share entries.now.others)) }
 {
-    if count == 0 {
-        return Ok(0);
-    }
+    let mut left = count;
     let mut sum = 0u16;
     for k in 0..entries.len() {
+        if left == 0 {
+            return Ok(sum);
+        }
         let entry = entries.entry(k);
         sum = sum.wrapping_add(append_shared(sink, &entry.file.kind, share, size)?);
+        left -= pieces_of(&entry.file.kind, share, size) as u32;
     }
     Ok(sum)
 }

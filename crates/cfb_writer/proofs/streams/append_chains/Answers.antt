@@ -1,18 +1,12 @@
-use Rattle.std.proofs.Common.{◌≡◌, ◌+◌, ◌∷◌, drop, refl, sym, ap, arith}
+use Rattle.std.proofs.Common.{◌≡◌, ◌+◌, ◌∷◌, drop, refl, ap, arith}
 use Rattle.carrier_model.specs.Layout.{words_bytes, stream_words, run_words}
-use Rattle.carrier_io.proofs.Summed.{sums_nothing}
 use Rattle.cfb_list.specs.Contents.{name_seen}
 use Rattle.cfb_writer.specs.Entered.{slot_seen}
 use Rattle.cfb_writer.specs.Laid.{bytes_of}
 use Rattle.cfb_writer.specs.Shares.{streams_of, share_pieces, share_total}
-use Rattle.cfb_writer.proofs.Going.{as_bytes, going_start, going_more, going_stops}
+use Rattle.cfb_writer.proofs.Going.{going_start, going_more, going_stops, going_done}
 use Rattle.cfb_writer.proofs.Shared.{no_words, entry_then, words_then, total_then}
 use Rattle.cfb_writer.proofs.streams.append_chains.Goals as goal
-
-pub returns-then-count-eq0 : goal.returns-then-count-eq0
-returns-then-count-eq0 g c =
-    let streams = streams_of c.args.share c.args.entries.now.others in
-    as_bytes (sym (ap words_bytes (no_words c.args.size c.args.start streams (omega (arith, c.requires.all))))) (sums_nothing (g.W.Sink.held c.args.sink.now) (g.W.Sink.faults c.args.sink.now))
 
 pub loop-k-init : goal.loop-k-init
 loop-k-init g c = (going_start (g.W.Sink.held c.args.sink.now) (g.W.Sink.faults c.args.sink.now) (words_bytes (stream_words c.args.size c.args.start (streams_of c.args.share c.args.entries.now.others))), refl)
@@ -76,3 +70,8 @@ loop-k-preserved g c =
     let is : n ≡ share_pieces c.args.share c.args.size (bytes_of s) = c.pieces_of-pieces.ensures (name_seen e.file.name) e.left e.right e.child in
     let total : share_total c.args.share c.args.size (drop k others) ≡ n + share_total c.args.share c.args.size (drop (k + 1) others) = omega (arith, is, ap (share_total c.args.share c.args.size) at, total_then c.args.share c.args.size s (drop (k + 1) others)) in
     (going_more _ (words_bytes (run_words c.loop-k.next n)) (words_bytes (stream_words c.args.size (c.loop-k.next + n) (streams_of c.args.share (drop (k + 1) others)))) (words_then c.args.share c.args.size c.loop-k.next n (drop k others) s (drop (k + 1) others) at is) refl c.loop-k.invariant.0 c.in_ok-sum.ensures, omega (arith, c.loop-k.invariant.1, total))
+
+pub returns-then-next-end : goal.returns-then-next-end
+returns-then-next-end g c =
+    let left = streams_of c.args.share (drop c.loop-k.k c.args.entries.now.others) in
+    going_done (ap words_bytes (no_words c.args.size c.loop-k.next left (omega (arith, c.requires.all, c.loop-k.invariant.1)))) c.loop-k.invariant.0
