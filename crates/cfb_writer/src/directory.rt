@@ -20,7 +20,7 @@ use crate::runs::END_OF_CHAIN;
 use crate::sizes::{ENTRY, MINI_SECTOR};
 use crate::streams::{Share, pieces_of};
 use crate::version::Version;
-use carrier_io::{Blob, Failed, Sink, le16, le32};
+use carrier_io::{Blob, Failed, Sink, append, le16, le32};
 use cfb_list::{ContentView, KindView, NameView, numbered_units};
 
 /// The object type of a storage. [MS-CFB 2.6.1]
@@ -117,12 +117,23 @@ fn bytes_behind(name: &[u16], fields: &Fields) -> [u8; 64]
     bytes
 }
 
-/// Appends an entry: its name and its fields. [MS-CFB 2.6.1]
+/// The bytes of an entry: its name and its fields. [MS-CFB 2.6.1]
+fn entry_bytes(name: &[u16], fields: &Fields) -> [u8; 128]
+    requires { length name.now ≤ 31 }
+    ensures { result ≡ record_bytes name.now fields.now }
+{
+    let mut bytes = [0u8; 128];
+    bytes[..64].copy_from_slice(&name_bytes(name));
+    bytes[64..].copy_from_slice(&bytes_behind(name, fields));
+    bytes
+}
+
+/// Appends an entry. [MS-CFB 2.6.1]
 fn append_fields<W: Sink>(sink: &mut W, name: &[u16], fields: &Fields) -> Result<u16, Failed>
     requires { length name.now ≤ 31 }
     ensures { Sums (W.held sink.old) (W.held sink.new) (W.faults sink.old) (W.faults sink.new) result (record_bytes name.now fields.now) }
 {
-    append_parts(sink, &[&name_bytes(name), &bytes_behind(name, fields)])
+    append(sink, &entry_bytes(name, fields))
 }
 
 /// Appends an entry whose name may end in a number.

@@ -1,5 +1,5 @@
 //! The streams of the mini stream, and those with sectors of their own.
-ghost use Rattle.std.specs.Prelude.{◌≡◌, ◌≤◌, ◌+◌, List, ℕ};
+ghost use Rattle.std.specs.Prelude.{◌≡◌, ◌≤◌, ◌+◌, ◌-◌, ◌*◌, List, ℕ, length};
 ghost use Rattle.std.specs.List.{flat_map};
 ghost use Rattle.carrier_model.specs.Layout as layout;
 ghost use Rattle.cfb_list.specs.Contents.{bytes_seen, child_seen};
@@ -11,6 +11,7 @@ ghost use Rattle.carrier_io.specs.Summed.{Sums};
 use crate::appending::append_content;
 use crate::entries::Entries;
 use crate::runs::{Run, append_run};
+use crate::sizes::MINI_SECTOR;
 use carrier_io::{Blob, Failed, Sink, append_zeros};
 use cfb_list::{ContentView, KindView};
 
@@ -35,6 +36,33 @@ impl Share {
     }
 }
 
+/// How many pieces of a size a content needs. A division by the size of mini sectors, which is known when this is
+/// compiled, is a shift.
+fn count_pieces<B: Blob>(content: &ContentView<'_, B>, size: u64) -> u64
+    requires some { 64 ≤ size }
+    requires few { size ≤ 4096 }
+    ensures { result ≡ layout.pieces size (bytes_seen B.bytes content.now) }
+{
+    if size == MINI_SECTOR {
+        content.pieces(MINI_SECTOR)
+    } else {
+        content.pieces(size)
+    }
+}
+
+/// How many bytes a content lacks up to whole pieces of a size, with the same shift.
+fn count_missing<B: Blob>(content: &ContentView<'_, B>, size: u64) -> u64
+    requires some { 64 ≤ size }
+    requires few { size ≤ 4096 }
+    ensures { result ≡ layout.pieces size (bytes_seen B.bytes content.now) * size - length (bytes_seen B.bytes content.now) }
+{
+    if size == MINI_SECTOR {
+        content.missing(MINI_SECTOR)
+    } else {
+        content.missing(size)
+    }
+}
+
 /// How many pieces of a size a file's stream has, if it is one of the share.
 pub fn pieces_of<B: Blob>(kind: &KindView<'_, B>, share: Share, size: u64) -> u64
     requires some { 64 ≤ size }
@@ -44,7 +72,7 @@ pub fn pieces_of<B: Blob>(kind: &KindView<'_, B>, share: Share, size: u64) -> u6
     match kind {
         KindView::Stream(content) => {
             if share.has(content) {
-                content.pieces(size)
+                count_pieces(content, size)
             } else {
                 0
             }
@@ -64,7 +92,7 @@ fn append_filled<B: Blob, W: Sink>(
     ensures { Sums (W.held sink.old) (W.held sink.new) (W.faults sink.old) (W.faults sink.new) result (layout.filled size (bytes_seen B.bytes content.now)) }
 {
     let bytes = append_content(sink, content)?;
-    let zeros = append_zeros(sink, content.missing(size))?;
+    let zeros = append_zeros(sink, count_missing(content, size))?;
     Ok(bytes.wrapping_add(zeros))
 }
 

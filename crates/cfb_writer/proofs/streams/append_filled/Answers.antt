@@ -12,4 +12,4 @@ returns-in_err-bytes g c =
     sums_first (replicate {A = ℕ} (pieces c.args.size x * c.args.size - length x) 0) c.from_residual.ensures.0 c.in_err-bytes.ensures
 
 pub returns-in_err-zeros : goal.returns-in_err-zeros
-returns-in_err-zeros g c = sums_second c.from_residual-in_err-zeros.ensures.0 c.in_ok-bytes.ensures (as_bytes (ap (λ (n : ℕ). replicate {A = ℕ} n 0) c.missing.ensures) c.in_err-zeros.ensures)
+returns-in_err-zeros g c = sums_second c.from_residual-in_err-zeros.ensures.0 c.in_ok-bytes.ensures (as_bytes (ap (λ (n : ℕ). replicate {A = ℕ} n 0) c.count_missing.ensures) c.in_err-zeros.ensures)
