@@ -16,16 +16,16 @@ use Rattle.cfb_list.specs.Grown.{MayBeAdded}
 use Rattle.cfb_writer.specs.Laid.{Laid, IsShort, slots_in}
 use Rattle.cfb_list.specs.Listed.{Child, stream, storage, built, tree_at, trees_from, tree_of, IsChild, AreSound, IsSound}
 use Rattle.cfb_writer.specs.Measures.{IsMeasure, sectors_in}
-use Rattle.cfb_writer.specs.Numbered.{plan_seen}
+use Rattle.cfb_layout.specs.Counts.{plan_seen}
 use Rattle.cfb_writer.specs.PlanKept.{IsPlanned}
 use Rattle.cfb_writer.specs.Planned.{laid_of, layout_of, planned}
 use Rattle.cfb_writer.specs.Shares.{share_pieces, share_total}
 use Rattle.cfb_list.specs.Trees.{long_in, mini_in}
-use Rattle.cfb_writer.specs.Versions.{sector_of}
+use Rattle.cfb_layout.specs.Versions.{sector_of}
 use Rattle.cfb_writer.specs.declared.parts.Measure.{Measure}
 use Rattle.cfb_writer.specs.declared.streams.Share.TheVariants.{Short, Long}
-use Rattle.cfb_writer.specs.declared.version.Version.{Version}
-use Rattle.cfb_writer.specs.declared.version.Version.TheVariants.{Three, Four}
+use Rattle.cfb_layout.specs.declared.version.Version.{Version}
+use Rattle.cfb_layout.specs.declared.version.Version.TheVariants.{Three, Four}
 use Rattle.cfb_writer.proofs.PlanSizes.{plan_is, mini_total, long_total}
 use Rattle.cfb_writer.proofs.Shared.{total_then}
 use Rattle.cfb_writer.proofs.Tables.{enough}

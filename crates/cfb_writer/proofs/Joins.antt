@@ -5,9 +5,9 @@ use Rattle.std.specs.List.{flat_map}
 use Rattle.std.proofs.Math.Nat.{mul_comm}
 use Rattle.carrier_model.specs.Layout.{Plan, Slot, all_pieces, filled, pieces, plan_of, short_streams}
 use Rattle.carrier_model.proofs.LaidParts.{all-short}
-use Rattle.cfb_writer.specs.Versions.{sector_of}
-use Rattle.cfb_writer.specs.declared.version.Version.{Version}
-use Rattle.cfb_writer.specs.declared.version.Version.TheVariants.{Three, Four}
+use Rattle.cfb_layout.specs.Versions.{sector_of}
+use Rattle.cfb_layout.specs.declared.version.Version.{Version}
+use Rattle.cfb_layout.specs.declared.version.Version.TheVariants.{Three, Four}
 
 pub mini_is : (z s : ℕ) (p : Plan) (slots : List Slot) → p ≡ plan_of z slots → s ≡ z → s * p.sizes.mini_stream - 64 * p.sizes.mini_sectors ≡ pieces z (flat_map (filled 64) (short_streams slots)) * z - length (flat_map (filled 64) (short_streams slots))
 mini_is z s p slots is e =

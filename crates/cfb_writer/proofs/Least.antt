@@ -7,9 +7,9 @@ use Rattle.std.proofs.lemmas.Bool.{cases_lt}
 use Rattle.carrier_model.specs.Layout.{suffices, first_that_suffices, fat_count}
 use Rattle.carrier_model.specs.Tables.{difat_count}
 use Rattle.carrier_model.proofs.LaidTables.{first-suffices}
-use Rattle.cfb_writer.specs.Versions.{sector_of}
-use Rattle.cfb_writer.specs.declared.version.Version.{Version}
-use Rattle.cfb_writer.specs.declared.version.Version.TheVariants.{Three, Four}
+use Rattle.cfb_layout.specs.Versions.{sector_of}
+use Rattle.cfb_layout.specs.declared.version.Version.{Version}
+use Rattle.cfb_layout.specs.declared.version.Version.TheVariants.{Three, Four}
 
 -- none before it suffices
 least : (more z rest f g : ℕ) → f ≤ g → g < first_that_suffices more z rest f → suffices z rest g ≡ true → ⊥

@@ -11,6 +11,5 @@ pub mod PlanSizes
 pub mod Rooms
 pub mod RunWords
 pub mod Shared
-pub mod Sides
 pub mod Tables
 pub mod Joins

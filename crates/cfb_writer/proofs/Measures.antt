@@ -4,13 +4,13 @@ use Rattle.carrier_model.specs.Bytes.{MOST_BYTES}
 use Rattle.carrier_model.specs.Layout.{Plan}
 use Rattle.carrier_model.specs.Totals.{capped}
 use Rattle.cfb_writer.specs.Measures.{CanBeTold, sectors_in}
-use Rattle.cfb_writer.specs.Numbered.{plan_seen, IsSmall}
+use Rattle.cfb_layout.specs.Counts.{plan_seen, IsSmall}
 use Rattle.cfb_writer.specs.Planned.{planned}
-use Rattle.cfb_writer.specs.Versions.{sector_of}
-use Rattle.cfb_writer.specs.declared.numbers.SectorCounts.{SectorCounts}
+use Rattle.cfb_layout.specs.Versions.{sector_of}
+use Rattle.cfb_layout.specs.declared.numbers.SectorCounts.{SectorCounts}
 use Rattle.cfb_writer.specs.declared.totals.Totals.{Totals}
-use Rattle.cfb_writer.specs.declared.version.Version.{Version}
-use Rattle.cfb_writer.specs.declared.version.Version.TheVariants.{Three, Four}
+use Rattle.cfb_layout.specs.declared.version.Version.{Version}
+use Rattle.cfb_layout.specs.declared.version.Version.TheVariants.{Three, Four}
 
 -- totals that are not at the greatest number are those that they stand for
 pub exact : (z : ℕ) (t : Totals) (entries mini long : ℕ) → t ≡ record { entries = capped entries; mini = capped mini; long = capped long } → CanBeTold t → planned z t.entries t.mini t.long ≡ planned z entries mini long

@@ -10,8 +10,8 @@ use Rattle.carrier_model.specs.Layout.{Plan, Slot, FREE, FAT_SECTOR, DIFAT_SECTO
 use Rattle.carrier_model.specs.Tables.{difat_count}
 use Rattle.carrier_model.proofs.LaidTables.{run-length, streams-length}
 use Rattle.cfb_writer.specs.Numbered.{front_words, next_list}
-use Rattle.cfb_writer.specs.Versions.{sector_of}
-use Rattle.cfb_writer.specs.declared.version.Version.{Version}
+use Rattle.cfb_layout.specs.Versions.{sector_of}
+use Rattle.cfb_layout.specs.declared.version.Version.{Version}
 use Rattle.cfb_writer.proofs.Least.{count-suffices, le_true}
 
 pub range_then : (f : ℕ → List ℕ) (k n : ℕ) → k < n → flat_map f (range_with_len k (n - k)) ≡ f k ++ flat_map f (range_with_len (k + 1) (n - (k + 1)))

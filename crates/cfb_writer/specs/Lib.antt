@@ -10,4 +10,3 @@ pub mod Planned
 pub mod Runs
 pub mod Shares
 pub mod Totals
-pub mod Versions

@@ -3,7 +3,7 @@ use Rattle.std.specs.Prelude.{◌≡◌, ℕ, ◌+◌, ◌*◌, ◌<◌, ◌≤�
 use Rattle.carrier_model.specs.Bytes.{MOST_BYTES}
 use Rattle.carrier_model.specs.Layout.{Plan, rest_of}
 use Rattle.carrier_model.specs.Totals.{capped}
-use Rattle.cfb_writer.specs.Numbered.{plan_seen, IsSmall}
+use Rattle.cfb_layout.specs.Counts.{plan_seen, IsSmall}
 use Rattle.cfb_writer.specs.declared.parts.Measure.{Measure}
 use Rattle.cfb_writer.specs.declared.parts.WideSectorCounts.{WideSectorCounts}
 use Rattle.cfb_writer.specs.declared.totals.Totals.{Totals}

@@ -6,21 +6,19 @@ ghost use Rattle.carrier_model.specs.Layout as layout;
 ghost use Rattle.cfb_list.specs.Contents.{bytes_seen, name_seen};
 ghost use Rattle.cfb_writer.specs.Entered.{slot_seen, record_bytes, behind_name, stream_start};
 ghost use Rattle.cfb_writer.specs.Laid.{bytes_of, IsShort, root_slot, slots_in, others_of};
-ghost use Rattle.cfb_writer.specs.Numbered.{plan_seen, IsSmall, IsPlanFor};
+ghost use Rattle.cfb_layout.specs.Counts.{plan_seen, IsSmall};
+ghost use Rattle.cfb_writer.specs.Numbered.{IsPlanFor};
 ghost use Rattle.carrier_io.specs.Summed.{Sums};
 ghost use Rattle.cfb_writer.specs.Shares.{share_total};
-ghost use Rattle.cfb_writer.specs.Versions.{sector_of};
+ghost use Rattle.cfb_layout.specs.Versions.{sector_of};
 
 use crate::appending::append_parts;
 use crate::entries::{Entries, Entry};
 use crate::header::start_or_end;
-use crate::links::NO_STREAM;
-use crate::numbers::SectorCounts;
 use crate::runs::END_OF_CHAIN;
-use crate::sizes::{ENTRY, MINI_SECTOR};
 use crate::streams::{Share, pieces_of};
-use crate::version::Version;
 use carrier_io::{Blob, Failed, Sink, append, le16, le32};
+use cfb_layout::{ENTRY, MINI_SECTOR, NO_STREAM, SectorCounts, Version};
 use cfb_list::{ContentView, KindView, NameView, numbered_units};
 
 /// The object type of a storage. [MS-CFB 2.6.1]

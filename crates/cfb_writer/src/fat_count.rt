@@ -2,10 +2,9 @@
 ghost use Rattle.std.specs.Prelude.{◌≡◌, ◌≤◌, ◌+◌, ◌^◌};
 ghost use Rattle.carrier_model.specs.Layout as layout;
 ghost use Rattle.carrier_model.specs.Tables as tables;
-ghost use Rattle.cfb_writer.specs.Versions.{sector_of};
+ghost use Rattle.cfb_layout.specs.Versions.{sector_of};
 
-use crate::sizes::HEADER_DIFAT;
-use crate::version::Version;
+use cfb_layout::{HEADER_DIFAT, Version};
 
 /// How many DIFAT sectors list the sectors of a FAT, beside the header. [MS-CFB 2.5]
 pub fn difat_count(version: Version, fat: u64) -> u64

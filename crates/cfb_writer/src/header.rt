@@ -1,16 +1,14 @@
 //! The header.
 ghost use Rattle.std.specs.Prelude.{◌≡◌, ◌+◌, ◌++◌};
 ghost use Rattle.carrier_model.specs.Layout as layout;
-ghost use Rattle.cfb_writer.specs.Numbered.{plan_seen, IsSmall};
+ghost use Rattle.cfb_layout.specs.Counts.{plan_seen, IsSmall};
 ghost use Rattle.carrier_io.specs.Summed.{Sums};
-ghost use Rattle.cfb_writer.specs.Versions.{sector_of};
+ghost use Rattle.cfb_layout.specs.Versions.{sector_of};
 
 use crate::appending::append_parts;
-use crate::numbers::SectorCounts;
 use crate::runs::{END_OF_CHAIN, FREE_SECTOR, Run, append_runs};
-use crate::sizes::{CUTOFF, HEADER, HEADER_DIFAT};
-use crate::version::Version;
 use carrier_io::{Failed, Sink, append_zeros, le32};
+use cfb_layout::{CUTOFF, HEADER, HEADER_DIFAT, SectorCounts, Version};
 
 /// Signature, class, versions, byte order and the powers of two, for sectors of 512 bytes. [MS-CFB 2.2]
 const FRONT_THREE: [u8; 40] = [

@@ -2,15 +2,13 @@
 ghost use Rattle.std.specs.Prelude.{◌≡◌, ◌<◌, ◌^◌, ◌↔◌, ℕ, IsTrue};
 ghost use Rattle.carrier_model.specs.Totals.{capped};
 ghost use Rattle.cfb_writer.specs.Measures.{CanBeTold, IsMeasure, parts_seen, sectors_in};
-ghost use Rattle.cfb_writer.specs.Numbered.{plan_seen};
+ghost use Rattle.cfb_layout.specs.Counts.{plan_seen};
 ghost use Rattle.cfb_writer.specs.Planned.{planned};
-ghost use Rattle.cfb_writer.specs.Versions.{sector_of};
+ghost use Rattle.cfb_layout.specs.Versions.{sector_of};
 
 use crate::fat_count::{difat_count, fat_count};
-use crate::numbers::SectorCounts;
-use crate::sizes::{ENTRY, MINI_SECTOR, WORD};
 use crate::totals::Totals;
-use crate::version::Version;
+use cfb_layout::{ENTRY, MINI_SECTOR, SectorCounts, Version, WORD};
 
 /// The most bytes of an output.
 const MOST_BYTES: u64 = 268_435_456;

@@ -10,9 +10,9 @@ ghost use Rattle.cfb_list.specs.Listed as listed;
 ghost use Rattle.cfb_writer.specs.Placed as placed;
 ghost use Rattle.cfb_list.specs.Trees.{inside};
 
-use crate::links::{NO_STREAM, append_links, top_of};
 use crate::totals::Totals;
 use carrier_io::{Blob, NoMemory};
+use cfb_layout::{NO_STREAM, append_links, top_of};
 use cfb_list::{KindView, SortedList};
 use std::alloc::Global;
 

@@ -1,12 +1,11 @@
 //! A compound file, planned and written.
 use crate::entries::Entries;
-use crate::numbers::SectorCounts;
 use crate::parts::measured;
 use crate::plan_entries::entries_of;
 use crate::totals::all_totals;
-use crate::version::Version;
 use crate::whole::append_file;
 use carrier_io::{Blob, Failed, PlanEnd, Sink, SureSink, Writing};
+use cfb_layout::{SectorCounts, Version};
 use cfb_list::{FileList, sorted_lists_are_trees, sorted_lists_need_as_much};
 use std::alloc::Global;
 use std::marker::Model;
@@ -24,9 +23,9 @@ impl<'t, B: Blob> Model for Plan<'t, B> {
     ghost use Rattle.std.specs.Prelude.{List, ℕ};
     ghost use Rattle.carrier_model.specs.Layout.{file_bytes};
     ghost use Rattle.cfb_writer.specs.Laid.{slots_in};
-    ghost use Rattle.cfb_writer.specs.Numbered.{plan_seen};
+    ghost use Rattle.cfb_layout.specs.Counts.{plan_seen};
     ghost use Rattle.cfb_writer.specs.PlanKept.{IsPlanned};
-    ghost use Rattle.cfb_writer.specs.Versions.{sector_of};
+    ghost use Rattle.cfb_layout.specs.Versions.{sector_of};
 
     ghost Value = { List ℕ };
 
@@ -46,9 +45,9 @@ impl<'t, B: Blob> Plan<'t, B> {
     ghost use Rattle.carrier_model.specs.Bytes.{sum16};
     ghost use Rattle.carrier_model.specs.Layout.{file_bytes};
     ghost use Rattle.cfb_writer.specs.Laid.{slots_in};
-    ghost use Rattle.cfb_writer.specs.Numbered.{plan_seen};
+    ghost use Rattle.cfb_layout.specs.Counts.{plan_seen};
     ghost use Rattle.cfb_writer.specs.PlanKept.{IsPlanned};
-    ghost use Rattle.cfb_writer.specs.Versions.{sector_of};
+    ghost use Rattle.cfb_layout.specs.Versions.{sector_of};
 
     /// A plan of entries, whose parts have so many sectors.
     pub(crate) fn of_parts(

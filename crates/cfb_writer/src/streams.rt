@@ -11,8 +11,8 @@ ghost use Rattle.carrier_io.specs.Summed.{Sums};
 use crate::appending::append_content;
 use crate::entries::Entries;
 use crate::runs::{Run, append_run};
-use crate::sizes::MINI_SECTOR;
 use carrier_io::{Blob, Failed, Sink, append_zeros};
+use cfb_layout::MINI_SECTOR;
 use cfb_list::{ContentView, KindView};
 
 /// Some of the streams.

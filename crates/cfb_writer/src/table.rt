@@ -2,17 +2,16 @@
 ghost use Rattle.std.specs.Prelude.{◌≡◌, ◌<◌};
 ghost use Rattle.carrier_model.specs.Layout as layout;
 ghost use Rattle.cfb_writer.specs.Laid.{slots_in};
-ghost use Rattle.cfb_writer.specs.Numbered.{plan_seen, front_words, next_list, IsSmall, IsPlanFor};
+ghost use Rattle.cfb_layout.specs.Counts.{plan_seen, IsSmall};
+ghost use Rattle.cfb_writer.specs.Numbered.{front_words, next_list, IsPlanFor};
 ghost use Rattle.carrier_io.specs.Summed.{Sums};
-ghost use Rattle.cfb_writer.specs.Versions.{sector_of};
+ghost use Rattle.cfb_layout.specs.Versions.{sector_of};
 
 use crate::entries::Entries;
-use crate::numbers::SectorCounts;
 use crate::runs::{END_OF_CHAIN, FREE_SECTOR, Run, append_run, append_runs};
-use crate::sizes::{HEADER_DIFAT, MINI_SECTOR};
 use crate::streams::{Share, append_chains};
-use crate::version::Version;
 use carrier_io::{Blob, Failed, Sink};
+use cfb_layout::{HEADER_DIFAT, MINI_SECTOR, SectorCounts, Version};
 
 /// The word of a sector of the FAT. [MS-CFB 2.1]
 const FAT_SECTOR: u32 = 0xFFFF_FFFD;

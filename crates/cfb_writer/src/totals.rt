@@ -7,12 +7,11 @@ ghost use Rattle.cfb_list.specs.Contents.{child_seen, file_children};
 ghost use Rattle.cfb_list.specs.Listed as listed;
 ghost use Rattle.cfb_writer.specs.Totals.{totals_of, AreKnown};
 ghost use Rattle.cfb_list.specs.Trees.{inside};
-ghost use Rattle.cfb_writer.specs.Versions.{sector_of};
+ghost use Rattle.cfb_layout.specs.Versions.{sector_of};
 
-use crate::sizes::MINI_SECTOR;
 use crate::streams::{Share, pieces_of};
-use crate::version::Version;
 use carrier_io::{Blob, NoMemory};
+use cfb_layout::{MINI_SECTOR, Version};
 use cfb_list::{File, FileList, KindView};
 use std::alloc::Global;
 

@@ -3,19 +3,18 @@ ghost use Rattle.std.specs.Prelude.{◌++◌};
 ghost use Rattle.std.specs.List.{AllByRecursion};
 ghost use Rattle.carrier_model.specs.Layout as layout;
 ghost use Rattle.cfb_writer.specs.Laid.{slots_in, others_of, IsShort};
-ghost use Rattle.cfb_writer.specs.Numbered.{plan_seen, IsSmall, IsPlanFor};
+ghost use Rattle.cfb_layout.specs.Counts.{plan_seen, IsSmall};
+ghost use Rattle.cfb_writer.specs.Numbered.{IsPlanFor};
 ghost use Rattle.carrier_io.specs.Summed.{Sums};
-ghost use Rattle.cfb_writer.specs.Versions.{sector_of};
+ghost use Rattle.cfb_layout.specs.Versions.{sector_of};
 
 use crate::directory::append_directory;
 use crate::entries::Entries;
 use crate::header::append_header;
-use crate::numbers::SectorCounts;
-use crate::sizes::MINI_SECTOR;
 use crate::streams::{Share, append_streams};
 use crate::table::{append_difat, append_fat, append_mini_fat};
-use crate::version::Version;
 use carrier_io::{Blob, Failed, Sink, append_zeros};
+use cfb_layout::{MINI_SECTOR, SectorCounts, Version};
 
 /// Appends the header, the FAT and the DIFAT sectors.
 fn append_tables<B: Blob, W: Sink>(

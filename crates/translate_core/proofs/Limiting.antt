@@ -13,9 +13,9 @@ use Rattle.carrier_io.specs.declared.failures.PlanEnd.{PlanEnd}
 use Rattle.carrier_io.specs.declared.failures.PlanEnd.TheVariants.{TooLarge}
 use Rattle.cfb_writer.specs.PlanEnds.{IsEndOf}
 use Rattle.cfb_writer.specs.Planned.{layout_of}
-use Rattle.cfb_writer.specs.Versions.{sector_of}
-use Rattle.cfb_writer.specs.declared.version.Version.{Version}
-use Rattle.cfb_writer.specs.declared.version.Version.TheVariants.{Three, Four}
+use Rattle.cfb_layout.specs.Versions.{sector_of}
+use Rattle.cfb_layout.specs.declared.version.Version.{Version}
+use Rattle.cfb_layout.specs.declared.version.Version.TheVariants.{Three, Four}
 use Rattle.carrier_model.specs.Tree.{Message}
 use Rattle.carrier_model.proofs.Messages.{first_found, first_later, is_passed, isnt_passed}
 use Rattle.job_model.specs.Commands.{wrap}

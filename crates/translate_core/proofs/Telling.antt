@@ -13,8 +13,8 @@ use Rattle.job_model.specs.Commands.{Job, wrap, unwrap}
 use Rattle.job_model.specs.Targets.{IsResult, passed_limit}
 use Rattle.mail_model.specs.Envelope.{Envelope, EnvelopeFault}
 use Rattle.tnef_model.specs.TnefMessage.{TnefCarrier, TnefFault}
-use Rattle.cfb_writer.specs.declared.version.Version.{Version}
-use Rattle.cfb_writer.specs.declared.version.Version.TheVariants.{Three, Four}
+use Rattle.cfb_layout.specs.declared.version.Version.{Version}
+use Rattle.cfb_layout.specs.declared.version.Version.TheVariants.{Three, Four}
 use Rattle.translate_core.specs.Jobs.{file_job}
 use Rattle.translate_core.specs.Ends.{Puts, Tells, end_of_stop}
 use Rattle.translate_core.specs.declared.ends.End.{End}

@@ -1,7 +1,7 @@
 -- Jobs as the definitions have them.
 use Rattle.job_model.specs.Commands as plain
-use Rattle.cfb_writer.specs.declared.version.Version.{Version}
-use Rattle.cfb_writer.specs.declared.version.Version.TheVariants.{Three, Four}
+use Rattle.cfb_layout.specs.declared.version.Version.{Version}
+use Rattle.cfb_layout.specs.declared.version.Version.TheVariants.{Three, Four}
 use Rattle.translate_core.specs.declared.jobs.Job.{Job}
 use Rattle.translate_core.specs.declared.jobs.Job.TheVariants.{ToMsg, ToMsg4, ToTnef, Wrap, Unwrap}
 

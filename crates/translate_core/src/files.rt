@@ -1,6 +1,6 @@
 //! Messages written as .msg files.
 ghost use Rattle.std.specs.Prelude.{◌≡◌, ◌≤◌, ℕ, List, None, length, IfOk, IfErr};
-ghost use Rattle.cfb_writer.specs.Versions.{sector_of};
+ghost use Rattle.cfb_layout.specs.Versions.{sector_of};
 ghost use Rattle.job_model.specs.Commands.{to_msg};
 ghost use Rattle.msg_model.specs.WrittenMsg.{msg_in, msg_of};
 ghost use Rattle.msg_tree.specs.Whole.{plain_of};

@@ -3,8 +3,8 @@ use Rattle.std.specs.List.{flat_map, range_with_len}
 use Rattle.carrier_io.specs.declared.failures.Failed.{Failed}
 use Rattle.carrier_model.specs.Layout.{root_bytes, slots_bytes, long_start, unused_slot}
 use Rattle.cfb_writer.specs.Laid.{slots_in, root_slot}
-use Rattle.cfb_writer.specs.Numbered.{plan_seen}
-use Rattle.cfb_writer.specs.Versions.{sector_of}
+use Rattle.cfb_layout.specs.Counts.{plan_seen}
+use Rattle.cfb_layout.specs.Versions.{sector_of}
 use Rattle.cfb_writer.proofs.Going.{as_bytes}
 use Rattle.carrier_io.proofs.Summed.{sums_both, sums_first, sums_second}
 use Rattle.cfb_writer.proofs.directory.append_directory.Goals as goal

@@ -5,7 +5,7 @@ use Rattle.cfb_list.specs.Contents.{name_seen}
 use Rattle.cfb_writer.specs.Entered.{slot_seen}
 use Rattle.cfb_writer.specs.Laid.{bytes_of, IsShort}
 use Rattle.cfb_writer.specs.Shares.{share_pieces, share_total}
-use Rattle.cfb_writer.specs.Versions.{sector_of}
+use Rattle.cfb_layout.specs.Versions.{sector_of}
 use Rattle.cfb_writer.specs.declared.streams.Share.TheVariants.{Short, Long}
 use Rattle.cfb_writer.proofs.Going.{going_start, going_more, going_stops}
 use Rattle.cfb_writer.proofs.Rooms.{each_at}

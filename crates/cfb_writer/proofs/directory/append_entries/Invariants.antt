@@ -1,7 +1,7 @@
 use Rattle.std.proofs.Common.{◌≡◌, ◌+◌, drop}
 use Rattle.carrier_model.specs.Layout.{slots_bytes}
 use Rattle.cfb_writer.specs.Shares.{share_total}
-use Rattle.cfb_writer.specs.Versions.{sector_of}
+use Rattle.cfb_layout.specs.Versions.{sector_of}
 use Rattle.cfb_writer.specs.declared.streams.Share.TheVariants.{Short, Long}
 use Rattle.cfb_writer.proofs.Going.{Going}
 use Rattle.cfb_writer.proofs.directory.append_entries.Given as goal

@@ -2,7 +2,7 @@ use Rattle.std.proofs.Common.{◌≡◌, ◌≤◌, ◌+◌, ◌-◌, ◌/◌, �
 use Rattle.std.specs.Int.{div_ceil}
 use Rattle.carrier_model.specs.Layout.{fat_count}
 use Rattle.carrier_model.specs.Tables.{difat_count}
-use Rattle.cfb_writer.specs.Versions.{sector_of}
+use Rattle.cfb_layout.specs.Versions.{sector_of}
 use Rattle.cfb_writer.proofs.Least.{count-bound, count-is, next-above, next-within}
 use Rattle.cfb_writer.proofs.fat_count.fat_count.Goals as goal
 

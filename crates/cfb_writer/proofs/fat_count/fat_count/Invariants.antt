@@ -1,6 +1,6 @@
 use Rattle.std.proofs.Common.{◌≤◌, ◌+◌, ◌-◌}
 use Rattle.carrier_model.specs.Layout.{fat_count}
-use Rattle.cfb_writer.specs.Versions.{sector_of}
+use Rattle.cfb_layout.specs.Versions.{sector_of}
 use Rattle.cfb_writer.proofs.fat_count.fat_count.Given as goal
 
 abbrev pub decreases-loop-version : goal.decreases-loop-version

@@ -2,8 +2,8 @@ use Rattle.std.proofs.Common.{◌-◌, ◌++◌, ℕ, Err, refl, ap}
 use Rattle.std.specs.Prelude.{replicate}
 use Rattle.carrier_io.specs.declared.failures.Failed.{Failed}
 use Rattle.carrier_model.specs.Layout.{header_list}
-use Rattle.cfb_writer.specs.Numbered.{plan_seen}
-use Rattle.cfb_writer.specs.Versions.{sector_of}
+use Rattle.cfb_layout.specs.Counts.{plan_seen}
+use Rattle.cfb_layout.specs.Versions.{sector_of}
 use Rattle.cfb_writer.proofs.Going.{as_bytes}
 use Rattle.cfb_writer.proofs.HeaderList.{list_is}
 use Rattle.carrier_io.proofs.Summed.{sums_both, sums_first, sums_second}

@@ -2,9 +2,9 @@ use Rattle.std.proofs.Common.{◌≡◌, ℕ, ◌*◌, ◌≤◌, ap, ◌∙◌,
 use Rattle.carrier_model.specs.Bytes.{MOST_BYTES}
 use Rattle.carrier_model.specs.Totals.{capped}
 use Rattle.cfb_writer.specs.Measures.{CanBeTold, sectors_in}
-use Rattle.cfb_writer.specs.Numbered.{plan_seen}
+use Rattle.cfb_layout.specs.Counts.{plan_seen}
 use Rattle.cfb_writer.specs.Planned.{planned}
-use Rattle.cfb_writer.specs.Versions.{sector_of}
+use Rattle.cfb_layout.specs.Versions.{sector_of}
 use Rattle.cfb_writer.proofs.Measures.{exact, small_is}
 use Rattle.cfb_writer.proofs.parts.measured.Goals as goal
 

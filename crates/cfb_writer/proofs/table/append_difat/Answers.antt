@@ -1,8 +1,8 @@
 use Rattle.std.proofs.Common.{◌+◌, ◌-◌, ℕ, List, refl}
 use Rattle.std.specs.List.{flat_map, range_with_len}
 use Rattle.carrier_model.specs.Layout.{words_bytes, difat_words}
-use Rattle.cfb_writer.specs.Numbered.{plan_seen}
-use Rattle.cfb_writer.specs.Versions.{sector_of}
+use Rattle.cfb_layout.specs.Counts.{plan_seen}
+use Rattle.cfb_layout.specs.Versions.{sector_of}
 use Rattle.cfb_writer.proofs.Going.{going_more, going_stops}
 use Rattle.cfb_writer.proofs.Tables.{range_then}
 use Rattle.cfb_writer.proofs.table.append_difat.Goals as goal

@@ -1,8 +1,8 @@
 use Rattle.std.proofs.Common.{◌-◌}
 use Rattle.std.specs.List.{flat_map, range_with_len}
 use Rattle.carrier_model.specs.Layout.{words_bytes, difat_words, difat_bytes}
-use Rattle.cfb_writer.specs.Numbered.{plan_seen}
-use Rattle.cfb_writer.specs.Versions.{sector_of}
+use Rattle.cfb_layout.specs.Counts.{plan_seen}
+use Rattle.cfb_layout.specs.Versions.{sector_of}
 use Rattle.cfb_writer.proofs.Going.{Going}
 use Rattle.cfb_writer.proofs.table.append_difat.Given as goal
 

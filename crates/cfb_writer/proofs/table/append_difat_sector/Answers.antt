@@ -1,8 +1,8 @@
 use Rattle.std.proofs.Common.{◌≡◌, ◌+◌, ◌-◌, ◌*◌, ◌/◌, ℕ, ap, ◌∙◌}
 use Rattle.std.specs.Prelude.{min}
 use Rattle.carrier_model.specs.Layout.{words_bytes}
-use Rattle.cfb_writer.specs.Numbered.{plan_seen}
-use Rattle.cfb_writer.specs.Versions.{sector_of}
+use Rattle.cfb_layout.specs.Counts.{plan_seen}
+use Rattle.cfb_layout.specs.Versions.{sector_of}
 use Rattle.cfb_writer.proofs.Going.{as_bytes}
 use Rattle.cfb_writer.proofs.Tables.{list_is}
 use Rattle.cfb_writer.proofs.table.append_difat_sector.Goals as goal

@@ -2,7 +2,7 @@ use Rattle.std.proofs.Common.{◌≡◌, ◌-◌, vec_len}
 use Rattle.std.specs.Prelude.{length}
 use Rattle.cfb_writer.specs.Totals.{AreKnown}
 use Rattle.cfb_list.specs.Trees.{inside}
-use Rattle.cfb_writer.specs.Versions.{sector_of}
+use Rattle.cfb_layout.specs.Versions.{sector_of}
 use Rattle.cfb_writer.proofs.totals.all_totals.Given as goal
 
 abbrev pub invariant-loop-done : goal.invariant-loop-done

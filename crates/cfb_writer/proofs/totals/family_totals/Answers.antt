@@ -4,7 +4,7 @@ use Rattle.cfb_list.specs.Contents.{file_children}
 use Rattle.cfb_list.specs.Listed.{Child, IsChild, built}
 use Rattle.cfb_list.specs.Trees.{inside}
 use Rattle.cfb_writer.specs.Totals.{totals_of}
-use Rattle.cfb_writer.specs.Versions.{sector_of}
+use Rattle.cfb_layout.specs.Versions.{sector_of}
 use Rattle.cfb_writer.proofs.Rooms.{each_of, files_more, totals_more}
 use Rattle.cfb_writer.proofs.totals.family_totals.Goals as goal
 

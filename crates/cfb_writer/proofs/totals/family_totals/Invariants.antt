@@ -4,7 +4,7 @@ use Rattle.cfb_list.specs.Contents.{file_children}
 use Rattle.cfb_list.specs.Listed.{built}
 use Rattle.cfb_list.specs.Trees.{inside}
 use Rattle.cfb_writer.specs.Totals.{totals_of}
-use Rattle.cfb_writer.specs.Versions.{sector_of}
+use Rattle.cfb_layout.specs.Versions.{sector_of}
 use Rattle.cfb_writer.proofs.totals.family_totals.Given as goal
 
 abbrev pub invariant-loop-file : goal.invariant-loop-file

@@ -3,7 +3,7 @@ use Rattle.std.proofs.lemmas.List.{take_more}
 use Rattle.cfb_list.specs.Contents.{file_children}
 use Rattle.cfb_list.specs.Listed.{Child, IsChild, built, name_of, nothing}
 use Rattle.cfb_writer.specs.Totals.{totals_of}
-use Rattle.cfb_writer.specs.Versions.{sector_of}
+use Rattle.cfb_layout.specs.Versions.{sector_of}
 use Rattle.cfb_writer.proofs.Rooms.{each_at, nameless, totals_more}
 use Rattle.cfb_writer.proofs.totals.file_totals.Goals as goal
 

@@ -4,7 +4,7 @@ use Rattle.carrier_model.specs.FileTrees.{FileTree}
 use Rattle.cfb_list.specs.Contents.{file_children}
 use Rattle.cfb_list.specs.Listed.{IsChild, built}
 use Rattle.cfb_writer.specs.Totals.{AreKnown, totals_of}
-use Rattle.cfb_writer.specs.Versions.{sector_of}
+use Rattle.cfb_layout.specs.Versions.{sector_of}
 use Rattle.cfb_writer.proofs.totals.file_totals.Given as goal
 
 abbrev pub invariant-loop-number : goal.invariant-loop-number

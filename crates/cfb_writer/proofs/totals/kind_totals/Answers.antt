@@ -2,7 +2,7 @@ use Rattle.std.proofs.Common.{◌∙◌, ℕ, ap, arith}
 use Rattle.cfb_writer.specs.Laid.{bytes_of}
 use Rattle.cfb_writer.specs.Placed.{slot_of}
 use Rattle.cfb_writer.specs.Shares.{share_pieces}
-use Rattle.cfb_writer.specs.Versions.{sector_of}
+use Rattle.cfb_layout.specs.Versions.{sector_of}
 use Rattle.cfb_writer.specs.declared.streams.Share.TheVariants.{Long}
 use Rattle.cfb_list.specs.Contents.{child_seen}
 use Rattle.cfb_writer.proofs.Rooms.{stream_totals, storage_totals}

@@ -2,8 +2,8 @@ use Rattle.std.proofs.Common.{◌++◌, refl}
 use Rattle.carrier_io.specs.declared.failures.Failed.{Failed}
 use Rattle.carrier_model.specs.Layout.{difat_bytes, directory_bytes, header_bytes, long_bytes, mini_stream_bytes, mini_table_of, table_of, words_bytes}
 use Rattle.cfb_writer.specs.Laid.{slots_in}
-use Rattle.cfb_writer.specs.Numbered.{plan_seen}
-use Rattle.cfb_writer.specs.Versions.{sector_of}
+use Rattle.cfb_layout.specs.Counts.{plan_seen}
+use Rattle.cfb_layout.specs.Versions.{sector_of}
 use Rattle.cfb_writer.proofs.Going.{as_bytes}
 use Rattle.carrier_io.proofs.Summed.{sums_both, sums_first, sums_second}
 use Rattle.cfb_writer.proofs.Joins.{parts_are}

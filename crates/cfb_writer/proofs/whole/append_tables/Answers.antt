@@ -2,8 +2,8 @@ use Rattle.std.proofs.Common.{◌++◌, Err, refl}
 use Rattle.carrier_io.specs.declared.failures.Failed.{Failed}
 use Rattle.carrier_model.specs.Layout.{difat_bytes, table_of, words_bytes}
 use Rattle.cfb_writer.specs.Laid.{slots_in}
-use Rattle.cfb_writer.specs.Numbered.{plan_seen}
-use Rattle.cfb_writer.specs.Versions.{sector_of}
+use Rattle.cfb_layout.specs.Counts.{plan_seen}
+use Rattle.cfb_layout.specs.Versions.{sector_of}
 use Rattle.carrier_io.proofs.Summed.{sums_both, sums_first, sums_second}
 use Rattle.cfb_writer.proofs.whole.append_tables.Goals as goal
 

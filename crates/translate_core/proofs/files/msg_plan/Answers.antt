@@ -1,6 +1,6 @@
 use Rattle.std.proofs.Common.{subst, sym, length, ◌≤◌, List, ℕ}
 use Rattle.carrier_model.specs.Bytes.{MOST_BYTES}
-use Rattle.cfb_writer.specs.Versions.{sector_of}
+use Rattle.cfb_layout.specs.Versions.{sector_of}
 use Rattle.job_model.proofs.WithinLimits.{parts_within}
 use Rattle.msg_tree.specs.Whole.{plain_of}
 use Rattle.translate_core.proofs.Limiting.{file_parts, file_fits, file_laid, file_end}

@@ -6,7 +6,7 @@ use Rattle.cfb_list.specs.Sorting.{siblings_in_order}
 use Rattle.cfb_list.specs.Trees.{long_in, mini_in}
 use Rattle.cfb_writer.specs.Planned.{laid_of}
 use Rattle.cfb_writer.specs.Totals.{totals_of}
-use Rattle.cfb_writer.specs.Versions.{sector_of}
+use Rattle.cfb_layout.specs.Versions.{sector_of}
 use Rattle.cfb_writer.proofs.FileSizes.{end_of, file_is, few_entries, plan_of_files, sound_fits}
 use Rattle.cfb_writer.proofs.Rooms.{counted_in_order, needed_in_order}
 use Rattle.cfb_writer.proofs.plan.Plan.new.Goals as goal

@@ -1,7 +1,7 @@
 //! How many sectors each part of a file has, and where it begins.
 ghost use Rattle.std.specs.Prelude.{◌≡◌};
 ghost use Rattle.carrier_model.specs.Layout as layout;
-ghost use Rattle.cfb_writer.specs.Numbered.{plan_seen, IsSmall};
+ghost use Rattle.cfb_layout.specs.Counts.{plan_seen, IsSmall};
 
 /// How many sectors each part of a file has, and of the mini stream also how many mini sectors.
 #[derive(Clone, Copy, Debug, PartialEq, Eq)]

@@ -1,7 +1,7 @@
 use Rattle.std.proofs.Common.{◌≡◌, List, ℕ, ◌++◌, ◌∷◌, [], ◌<◌, ◌+◌, length, take, drop, ap, ◌∙◌, arith}
 use Rattle.carrier_model.specs.Layout.{links_of_siblings, top_of, middle}
-use Rattle.cfb_writer.proofs.Sides.{three_steps, on_ok}
-use Rattle.cfb_writer.proofs.links.+append_links.Goals as goal
+use Rattle.cfb_layout.proofs.Sides.{three_steps, on_ok}
+use Rattle.cfb_layout.proofs.links.+append_links.Goals as goal
 
 pub returns : goal.returns
 returns t c =

@@ -1,6 +1,6 @@
 //! The versions of the format.
 ghost use Rattle.std.specs.Prelude.{◌≡◌, ◌/◌};
-ghost use Rattle.cfb_writer.specs.Versions.{sector_of};
+ghost use Rattle.cfb_layout.specs.Versions.{sector_of};
 
 use crate::sizes::WORD;
 
