@@ -9,7 +9,10 @@ use Rattle.std.proofs.lemmas.List.Sums.{sum_by-cons}
 use Rattle.std.proofs.lemmas.Option.{slice_get_within, get_or_from_slice_get}
 use Rattle.carrier_model.specs.Bytes.{le32}
 use Rattle.carrier_model.specs.Layout.{Slot, pieces, filled, all_pieces, run_words, stream_words, words_bytes, slots_bytes, slot_bytes, start_of_slot, is_short, is_long}
-use Rattle.cfb_writer.specs.Shares.{is_of, streams_of, share_pieces, share_total, share_bytes}
+use Rattle.cfb_writer.specs.Shares.{is_of, size_of, streams_of, share_pieces, share_total, share_bytes}
+use Rattle.cfb_layout.specs.Versions.{sector_of}
+use Rattle.cfb_layout.specs.declared.version.Version.{Version}
+use Rattle.cfb_layout.specs.declared.version.Version.TheVariants.{Three, Four}
 use Rattle.cfb_writer.specs.declared.streams.Share.{Share}
 use Rattle.cfb_writer.specs.declared.streams.Share.TheVariants.{Short, Long}
 
@@ -17,37 +20,42 @@ use Rattle.cfb_writer.specs.declared.streams.Share.TheVariants.{Short, Long}
 pub entry_then : (slots : List Slot) (k : ℕ) (s : Slot) → slice_get slots k ≡ Some s → drop k slots ≡ s ∷ drop (k + 1) slots
 entry_then slots k s at = drop_more slots k s (slice_get_within slots k s at) ∙ ap (λ (x : Slot). x ∷ drop (k + 1) slots) (get_or_from_slice_get slots k s s at)
 
-pub total_then : (share : Share) (size : ℕ) (s : Slot) (others : List Slot) → share_total share size (s ∷ others) ≡ share_pieces share size s.bytes + share_total share size others
-total_then share size s others = by (is_of share s.bytes)
+pub total_then : (share : Share) (z : ℕ) (s : Slot) (others : List Slot) → share_total share z (s ∷ others) ≡ share_pieces share z s.bytes + share_total share z others
+total_then share z s others = by (is_of share s.bytes)
   where
-    by : (b : Bool) → all_pieces size (cond b (s.bytes ∷ streams_of share others) (streams_of share others)) ≡ cond b (pieces size s.bytes) 0 + share_total share size others
-    by true = sum_by-cons (λ k. k) (pieces size s.bytes) (map (pieces size) (streams_of share others))
+    by : (b : Bool) → all_pieces (size_of share z) (cond b (s.bytes ∷ streams_of share others) (streams_of share others)) ≡ cond b (pieces (size_of share z) s.bytes) 0 + share_total share z others
+    by true = sum_by-cons (λ k. k) (pieces (size_of share z) s.bytes) (map (pieces (size_of share z)) (streams_of share others))
     by false = omega arith
 
-chain_then : (share : Share) (size start : ℕ) (s : Slot) (others : List Slot) → stream_words size start (streams_of share (s ∷ others)) ≡ run_words start (share_pieces share size s.bytes) ++ stream_words size (start + share_pieces share size s.bytes) (streams_of share others)
-chain_then share size start s others = by (is_of share s.bytes)
+chain_then : (share : Share) (z start : ℕ) (s : Slot) (others : List Slot) → stream_words (size_of share z) start (streams_of share (s ∷ others)) ≡ run_words start (share_pieces share z s.bytes) ++ stream_words (size_of share z) (start + share_pieces share z s.bytes) (streams_of share others)
+chain_then share z start s others = by (is_of share s.bytes)
   where
-    by : (b : Bool) → stream_words size start (cond b (s.bytes ∷ streams_of share others) (streams_of share others)) ≡ run_words start (cond b (pieces size s.bytes) 0) ++ stream_words size (start + cond b (pieces size s.bytes) 0) (streams_of share others)
+    by : (b : Bool) → stream_words (size_of share z) start (cond b (s.bytes ∷ streams_of share others) (streams_of share others)) ≡ run_words start (cond b (pieces (size_of share z) s.bytes) 0) ++ stream_words (size_of share z) (start + cond b (pieces (size_of share z) s.bytes) 0) (streams_of share others)
     by true = refl
-    by false = ap (λ (n : ℕ). stream_words size n (streams_of share others)) (omega arith)
+    by false = ap (λ (n : ℕ). stream_words (size_of share z) n (streams_of share others)) (omega arith)
 
 -- the words of a stream's chain, and of those behind it
-pub words_then : (share : Share) (size start n : ℕ) (left : List Slot) (s : Slot) (others : List Slot) → left ≡ s ∷ others → n ≡ share_pieces share size s.bytes → words_bytes (stream_words size start (streams_of share left)) ≡ words_bytes (run_words start n) ++ words_bytes (stream_words size (start + n) (streams_of share others))
-words_then share size start n left s others at e =
-    ap (λ (x : List Slot). words_bytes (stream_words size start (streams_of share x))) at
-    ∙ ap words_bytes (chain_then share size start s others)
-    ∙ ap (λ (m : ℕ). words_bytes (run_words start m ++ stream_words size (start + m) (streams_of share others))) (sym e)
-    ∙ flat_map-append le32 (run_words start n) (stream_words size (start + n) (streams_of share others))
+pub words_then : (share : Share) (z start n : ℕ) (left : List Slot) (s : Slot) (others : List Slot) → left ≡ s ∷ others → n ≡ share_pieces share z s.bytes → words_bytes (stream_words (size_of share z) start (streams_of share left)) ≡ words_bytes (run_words start n) ++ words_bytes (stream_words (size_of share z) (start + n) (streams_of share others))
+words_then share z start n left s others at e =
+    ap (λ (x : List Slot). words_bytes (stream_words (size_of share z) start (streams_of share x))) at
+    ∙ ap words_bytes (chain_then share z start s others)
+    ∙ ap (λ (m : ℕ). words_bytes (run_words start m ++ stream_words (size_of share z) (start + m) (streams_of share others))) (sym e)
+    ∙ flat_map-append le32 (run_words start n) (stream_words (size_of share z) (start + n) (streams_of share others))
 
 -- a stream's bytes, and those behind it
-pub bytes_then : (share : Share) (size : ℕ) (left : List Slot) (s : Slot) (others : List Slot) → left ≡ s ∷ others → flat_map (filled size) (streams_of share left) ≡ share_bytes share size s.bytes ++ flat_map (filled size) (streams_of share others)
-bytes_then share size left s others at = ap (λ (x : List Slot). flat_map (filled size) (streams_of share x)) at ∙ by (is_of share s.bytes)
+pub bytes_then : (share : Share) (z : ℕ) (left : List Slot) (s : Slot) (others : List Slot) → left ≡ s ∷ others → flat_map (filled (size_of share z)) (streams_of share left) ≡ share_bytes share z s.bytes ++ flat_map (filled (size_of share z)) (streams_of share others)
+bytes_then share z left s others at = ap (λ (x : List Slot). flat_map (filled (size_of share z)) (streams_of share x)) at ∙ by (is_of share s.bytes)
   where
-    by : (b : Bool) → flat_map (filled size) (cond b (s.bytes ∷ streams_of share others) (streams_of share others)) ≡ cond b (filled size s.bytes) [] ++ flat_map (filled size) (streams_of share others)
+    by : (b : Bool) → flat_map (filled (size_of share z)) (cond b (s.bytes ∷ streams_of share others) (streams_of share others)) ≡ cond b (filled (size_of share z) s.bytes) [] ++ flat_map (filled (size_of share z)) (streams_of share others)
     by true = refl
     by false = refl
 
 -- ---- a share that has no pieces
+
+pub some_size : (share : Share) (version : Version) → 0 < size_of share (sector_of version)
+some_size Short version = omega arith
+some_size Long Three = omega arith
+some_size Long Four = omega arith
 
 none_both : (size : ℕ) (x : List ℕ) (xs : List (List ℕ)) → 0 ≡ all_pieces size (x ∷ xs) → (pieces size x ≡ 0) × (0 ≡ all_pieces size xs)
 none_both size x xs none =

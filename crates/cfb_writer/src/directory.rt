@@ -205,7 +205,7 @@ fn append_entries<B: Blob, W: Sink>(
     first: Next,
 ) -> Result<u16, Failed>
     requires short { AllByRecursion IsShort entries.now.others }
-    requires mini { first.mini + share_total Share.Short 64 entries.now.others ≤ 2147483648 }
+    requires mini { first.mini + share_total Share.Short (sector_of version) entries.now.others ≤ 2147483648 }
     requires long { first.long + share_total Share.Long (sector_of version) entries.now.others ≤ 2147483648 }
     ensures { Sums (W.held sink.old) (W.held sink.new) (W.faults sink.old) (W.faults sink.new) result (layout.slots_bytes (sector_of version) first.mini first.long entries.now.others) }
 {
@@ -214,8 +214,8 @@ fn append_entries<B: Blob, W: Sink>(
     for k in 0..entries.len() {
         let entry = entries.entry(k);
         sum = sum.wrapping_add(append_entry(sink, &entry, next)?);
-        next.mini += pieces_of(&entry.file.kind, Share::Short, MINI_SECTOR) as u32;
-        next.long += pieces_of(&entry.file.kind, Share::Long, version.sector()) as u32;
+        next.mini += pieces_of(&entry.file.kind, Share::Short, version) as u32;
+        next.long += pieces_of(&entry.file.kind, Share::Long, version) as u32;
     }
     Ok(sum)
 }

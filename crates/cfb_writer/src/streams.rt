@@ -6,13 +6,15 @@ ghost use Rattle.cfb_list.specs.Contents.{bytes_seen, child_seen};
 ghost use Rattle.cfb_writer.specs.Laid.{bytes_of};
 ghost use Rattle.cfb_writer.specs.Placed.{slot_of};
 ghost use Rattle.cfb_writer.specs.Shares as shares;
+ghost use Rattle.cfb_writer.specs.Shares.{size_of};
 ghost use Rattle.carrier_io.specs.Summed.{Sums};
+ghost use Rattle.cfb_layout.specs.Versions.{sector_of};
 
 use crate::appending::append_content;
 use crate::entries::Entries;
 use crate::runs::{Run, append_run};
 use carrier_io::{Blob, Failed, Sink, append_zeros};
-use cfb_layout::MINI_SECTOR;
+use cfb_layout::{MINI_SECTOR, Version};
 use cfb_list::{ContentView, KindView};
 
 /// Some of the streams.
@@ -34,45 +36,36 @@ impl Share {
             Share::Long => content.is_long(),
         }
     }
-}
 
-/// How many pieces of a size a content needs. A division by the size of mini sectors, which is known when this is
-/// compiled, is a shift.
-fn count_pieces<B: Blob>(content: &ContentView<'_, B>, size: u64) -> u64
-    requires some { 64 ≤ size }
-    requires few { size ≤ 4096 }
-    ensures { result ≡ layout.pieces size (bytes_seen B.bytes content.now) }
-{
-    if size == MINI_SECTOR {
-        content.pieces(MINI_SECTOR)
-    } else {
-        content.pieces(size)
+    /// How many pieces a content needs, mini sectors or sectors.
+    fn count_pieces<B: Blob>(self, version: Version, content: &ContentView<'_, B>) -> u64
+        ensures { result ≡ layout.pieces (size_of self (sector_of version)) (bytes_seen B.bytes content.now) }
+    {
+        match self {
+            Share::Short => content.pieces(MINI_SECTOR),
+            Share::Long => content.pieces(version.sector()),
+        }
+    }
+
+    /// How many bytes a content lacks up to whole pieces.
+    fn count_missing<B: Blob>(self, version: Version, content: &ContentView<'_, B>) -> u64
+        ensures { result ≡ layout.pieces (size_of self (sector_of version)) (bytes_seen B.bytes content.now) * size_of self (sector_of version) - length (bytes_seen B.bytes content.now) }
+    {
+        match self {
+            Share::Short => content.missing(MINI_SECTOR),
+            Share::Long => content.missing(version.sector()),
+        }
     }
 }
 
-/// How many bytes a content lacks up to whole pieces of a size, with the same shift.
-fn count_missing<B: Blob>(content: &ContentView<'_, B>, size: u64) -> u64
-    requires some { 64 ≤ size }
-    requires few { size ≤ 4096 }
-    ensures { result ≡ layout.pieces size (bytes_seen B.bytes content.now) * size - length (bytes_seen B.bytes content.now) }
-{
-    if size == MINI_SECTOR {
-        content.missing(MINI_SECTOR)
-    } else {
-        content.missing(size)
-    }
-}
-
-/// How many pieces of a size a file's stream has, if it is one of the share.
-pub fn pieces_of<B: Blob>(kind: &KindView<'_, B>, share: Share, size: u64) -> u64
-    requires some { 64 ≤ size }
-    requires few { size ≤ 4096 }
-    ensures { (name : List ℕ) (left right child : ℕ) → result ≡ shares.share_pieces share size (bytes_of (slot_of (child_seen B.bytes name kind.now) left right child)) }
+/// How many pieces a file's stream has, if it is one of the share.
+pub fn pieces_of<B: Blob>(kind: &KindView<'_, B>, share: Share, version: Version) -> u64
+    ensures { (name : List ℕ) (left right child : ℕ) → result ≡ shares.share_pieces share (sector_of version) (bytes_of (slot_of (child_seen B.bytes name kind.now) left right child)) }
 {
     match kind {
         KindView::Stream(content) => {
             if share.has(content) {
-                count_pieces(content, size)
+                share.count_pieces(version, content)
             } else {
                 0
             }
@@ -85,14 +78,13 @@ pub fn pieces_of<B: Blob>(kind: &KindView<'_, B>, share: Share, size: u64) -> u6
 fn append_filled<B: Blob, W: Sink>(
     sink: &mut W,
     content: &ContentView<'_, B>,
-    size: u64,
+    share: Share,
+    version: Version,
 ) -> Result<u16, Failed>
-    requires some { 64 ≤ size }
-    requires few { size ≤ 4096 }
-    ensures { Sums (W.held sink.old) (W.held sink.new) (W.faults sink.old) (W.faults sink.new) result (layout.filled size (bytes_seen B.bytes content.now)) }
+    ensures { Sums (W.held sink.old) (W.held sink.new) (W.faults sink.old) (W.faults sink.new) result (layout.filled (size_of share (sector_of version)) (bytes_seen B.bytes content.now)) }
 {
     let bytes = append_content(sink, content)?;
-    let zeros = append_zeros(sink, count_missing(content, size))?;
+    let zeros = append_zeros(sink, share.count_missing(version, content))?;
     Ok(bytes.wrapping_add(zeros))
 }
 
@@ -101,16 +93,14 @@ fn append_shared<B: Blob, W: Sink>(
     sink: &mut W,
     kind: &KindView<'_, B>,
     share: Share,
-    size: u64,
+    version: Version,
 ) -> Result<u16, Failed>
-    requires some { 64 ≤ size }
-    requires few { size ≤ 4096 }
-    ensures { (name : List ℕ) (left right child : ℕ) → Sums (W.held sink.old) (W.held sink.new) (W.faults sink.old) (W.faults sink.new) result (shares.share_bytes share size (bytes_of (slot_of (child_seen B.bytes name kind.now) left right child))) }
+    ensures { (name : List ℕ) (left right child : ℕ) → Sums (W.held sink.old) (W.held sink.new) (W.faults sink.old) (W.faults sink.new) result (shares.share_bytes share (sector_of version) (bytes_of (slot_of (child_seen B.bytes name kind.now) left right child))) }
 {
     match kind {
         KindView::Stream(content) => {
             if share.has(content) {
-                append_filled(sink, content, size)
+                append_filled(sink, content, share, version)
             } else {
                 Ok(0)
             }
@@ -125,15 +115,13 @@ pub fn append_chains<B: Blob, W: Sink>(
     sink: &mut W,
     entries: &Entries<'_, B>,
     share: Share,
-    size: u64,
+    version: Version,
     start: u32,
     count: u32,
 ) -> Result<u16, Failed>
-    requires some { 64 ≤ size }
-    requires small { size ≤ 4096 }
-    requires all { count ≡ shares.share_total share size entries.now.others }
+    requires all { count ≡ shares.share_total share (sector_of version) entries.now.others }
     requires few { start + count ≤ 2147483648 }
-    ensures { Sums (W.held sink.old) (W.held sink.new) (W.faults sink.old) (W.faults sink.new) result (layout.words_bytes (layout.stream_words size start (shares.streams_of share entries.now.others))) }
+    ensures { Sums (W.held sink.old) (W.held sink.new) (W.faults sink.old) (W.faults sink.new) result (layout.words_bytes (layout.stream_words (size_of share (sector_of version)) start (shares.streams_of share entries.now.others))) }
 {
     let end = start + count;
     let mut next = start;
@@ -142,7 +130,7 @@ pub fn append_chains<B: Blob, W: Sink>(
         if next == end {
             return Ok(sum);
         }
-        let pieces = pieces_of(&entries.entry(k).file.kind, share, size) as u32;
+        let pieces = pieces_of(&entries.entry(k).file.kind, share, version) as u32;
         sum = sum.wrapping_add(append_run(sink, Run::Chain(next), pieces)?);
         next += pieces;
     }
@@ -155,13 +143,11 @@ pub fn append_streams<B: Blob, W: Sink>(
     sink: &mut W,
     entries: &Entries<'_, B>,
     share: Share,
-    size: u64,
+    version: Version,
     count: u32,
 ) -> Result<u16, Failed>
-    requires some { 64 ≤ size }
-    requires few { size ≤ 4096 }
-    requires all { count ≡ shares.share_total share size entries.now.others }
-    ensures { Sums (W.held sink.old) (W.held sink.new) (W.faults sink.old) (W.faults sink.new) result (flat_map (layout.filled size) (shares.streams_of share entries.now.others)) }
+    requires { count ≡ shares.share_total share (sector_of version) entries.now.others }
+    ensures { Sums (W.held sink.old) (W.held sink.new) (W.faults sink.old) (W.faults sink.new) result (flat_map (layout.filled (size_of share (sector_of version))) (shares.streams_of share entries.now.others)) }
 {
     let mut left = count;
     let mut sum = 0u16;
@@ -170,8 +156,8 @@ pub fn append_streams<B: Blob, W: Sink>(
             return Ok(sum);
         }
         let entry = entries.entry(k);
-        sum = sum.wrapping_add(append_shared(sink, &entry.file.kind, share, size)?);
-        left -= pieces_of(&entry.file.kind, share, size) as u32;
+        sum = sum.wrapping_add(append_shared(sink, &entry.file.kind, share, version)?);
+        left -= pieces_of(&entry.file.kind, share, version) as u32;
     }
     Ok(sum)
 }

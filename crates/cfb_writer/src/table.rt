@@ -11,7 +11,7 @@ use crate::entries::Entries;
 use crate::runs::{END_OF_CHAIN, FREE_SECTOR, Run, append_run, append_runs};
 use crate::streams::{Share, append_chains};
 use carrier_io::{Blob, Failed, Sink};
-use cfb_layout::{HEADER_DIFAT, MINI_SECTOR, SectorCounts, Version};
+use cfb_layout::{HEADER_DIFAT, SectorCounts, Version};
 
 /// The word of a sector of the FAT. [MS-CFB 2.1]
 const FAT_SECTOR: u32 = 0xFFFF_FFFD;
@@ -52,7 +52,7 @@ pub fn append_fat<B: Blob, W: Sink>(
         sink,
         entries,
         Share::Long,
-        version.sector(),
+        version,
         numbers.long_start(),
         numbers.long,
     )?;
@@ -80,7 +80,7 @@ pub fn append_mini_fat<B: Blob, W: Sink>(
         sink,
         entries,
         Share::Short,
-        MINI_SECTOR,
+        version,
         0,
         numbers.mini_sectors,
     )?;

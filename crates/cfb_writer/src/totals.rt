@@ -11,7 +11,7 @@ ghost use Rattle.cfb_layout.specs.Versions.{sector_of};
 
 use crate::streams::{Share, pieces_of};
 use carrier_io::{Blob, NoMemory};
-use cfb_layout::{MINI_SECTOR, Version};
+use cfb_layout::Version;
 use cfb_list::{File, FileList, KindView};
 use std::alloc::Global;
 
@@ -53,8 +53,8 @@ fn kind_totals<B: Blob>(version: Version, kind: &KindView<'_, B>, totals: &[Tota
 {
     let own = Totals {
         entries: 1,
-        mini: pieces_of(kind, Share::Short, MINI_SECTOR),
-        long: pieces_of(kind, Share::Long, version.sector()),
+        mini: pieces_of(kind, Share::Short, version),
+        long: pieces_of(kind, Share::Long, version),
     };
     match kind {
         KindView::Stream(_) => own,

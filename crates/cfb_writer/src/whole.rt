@@ -44,13 +44,7 @@ fn append_mini_stream<B: Blob, W: Sink>(
     requires plan { IsPlanFor (sector_of version) (plan_seen numbers.now) (slots_in entries.now) }
     ensures { Sums (W.held sink.old) (W.held sink.new) (W.faults sink.old) (W.faults sink.new) result (layout.mini_stream_bytes (sector_of version) (slots_in entries.now)) }
 {
-    let streams = append_streams(
-        sink,
-        entries,
-        Share::Short,
-        MINI_SECTOR,
-        numbers.mini_sectors,
-    )?;
+    let streams = append_streams(sink, entries, Share::Short, version, numbers.mini_sectors)?;
     let room = version.sector() * numbers.mini_stream as u64;
     let zeros = append_zeros(sink, room - MINI_SECTOR * numbers.mini_sectors as u64)?;
     Ok(streams.wrapping_add(zeros))
@@ -71,7 +65,7 @@ fn append_files<B: Blob, W: Sink>(
     let directory = append_directory(sink, version, numbers, entries)?;
     let mini_fat = append_mini_fat(sink, version, numbers, entries)?;
     let mini = append_mini_stream(sink, version, numbers, entries)?;
-    let long = append_streams(sink, entries, Share::Long, version.sector(), numbers.long)?;
+    let long = append_streams(sink, entries, Share::Long, version, numbers.long)?;
     Ok(directory.wrapping_add(mini_fat.wrapping_add(mini.wrapping_add(long))))
 }
 

@@ -1,4 +1,4 @@
-use Rattle.std.proofs.Common.{◌≡◌, ◌+◌, ◌∷◌, ℕ, drop, length, refl, ap, subst, ◌∙◌, arith}
+use Rattle.std.proofs.Common.{◌≡◌, ◌+◌, ◌∷◌, ℕ, drop, length, refl, ap, subst, arith}
 use Rattle.std.proofs.lemmas.Option.{slice_get_within, get_or_from_slice_get}
 use Rattle.carrier_model.specs.Layout.{slot_bytes, slots_bytes, start_of_slot}
 use Rattle.cfb_list.specs.Contents.{name_seen}
@@ -49,7 +49,7 @@ overflow_cast-next-in-loop-k g c =
     let m = c.pieces_of.result in
     let l = c.pieces_of-in-loop-k.result in
     let mini : m ≡ share_pieces Short 64 (bytes_of s) = c.pieces_of.ensures (name_seen e.file.name) e.left e.right e.child in
-    let long : l ≡ share_pieces Long z (bytes_of s) = c.pieces_of-in-loop-k.ensures (name_seen e.file.name) e.left e.right e.child ∙ ap (λ (n : ℕ). share_pieces Long n (bytes_of s)) c.sector.ensures in
+    let long : l ≡ share_pieces Long z (bytes_of s) = c.pieces_of-in-loop-k.ensures (name_seen e.file.name) e.left e.right e.child in
     let minis : share_total Short 64 (drop k others) ≡ m + share_total Short 64 rest = omega (arith, mini, ap (share_total Short 64) at, total_then Short 64 s rest) in
     let longs : share_total Long z (drop k others) ≡ l + share_total Long z rest = omega (arith, long, ap (share_total Long z) at, total_then Long z s rest) in
     omega (arith, c.loop-k.invariant.2, longs, c.requires.long)
@@ -67,7 +67,7 @@ overflow_add-next-in-loop-k g c =
     let m = c.pieces_of.result in
     let l = c.pieces_of-in-loop-k.result in
     let mini : m ≡ share_pieces Short 64 (bytes_of s) = c.pieces_of.ensures (name_seen e.file.name) e.left e.right e.child in
-    let long : l ≡ share_pieces Long z (bytes_of s) = c.pieces_of-in-loop-k.ensures (name_seen e.file.name) e.left e.right e.child ∙ ap (λ (n : ℕ). share_pieces Long n (bytes_of s)) c.sector.ensures in
+    let long : l ≡ share_pieces Long z (bytes_of s) = c.pieces_of-in-loop-k.ensures (name_seen e.file.name) e.left e.right e.child in
     let minis : share_total Short 64 (drop k others) ≡ m + share_total Short 64 rest = omega (arith, mini, ap (share_total Short 64) at, total_then Short 64 s rest) in
     let longs : share_total Long z (drop k others) ≡ l + share_total Long z rest = omega (arith, long, ap (share_total Long z) at, total_then Long z s rest) in
     omega (arith, c.loop-k.invariant.2, longs, c.requires.long)
@@ -85,7 +85,7 @@ loop-k-preserved g c =
     let m = c.pieces_of.result in
     let l = c.pieces_of-in-loop-k.result in
     let mini : m ≡ share_pieces Short 64 (bytes_of s) = c.pieces_of.ensures (name_seen e.file.name) e.left e.right e.child in
-    let long : l ≡ share_pieces Long z (bytes_of s) = c.pieces_of-in-loop-k.ensures (name_seen e.file.name) e.left e.right e.child ∙ ap (λ (n : ℕ). share_pieces Long n (bytes_of s)) c.sector.ensures in
+    let long : l ≡ share_pieces Long z (bytes_of s) = c.pieces_of-in-loop-k.ensures (name_seen e.file.name) e.left e.right e.child in
     let minis : share_total Short 64 (drop k others) ≡ m + share_total Short 64 rest = omega (arith, mini, ap (share_total Short 64) at, total_then Short 64 s rest) in
     let longs : share_total Long z (drop k others) ≡ l + share_total Long z rest = omega (arith, long, ap (share_total Long z) at, total_then Long z s rest) in (
       going_more _ (slot_bytes s (start_of_slot next.mini next.long s) (length (bytes_of s))) (slots_bytes z (next.mini + m) (next.long + l) rest) (slots_then z next.mini next.long (next.mini + m) (next.long + l) (drop k others) s rest at (ap (λ (n : ℕ). next.mini + n) mini) (ap (λ (n : ℕ). next.long + n) long)) refl c.loop-k.invariant.0 c.in_ok-sum.ensures,

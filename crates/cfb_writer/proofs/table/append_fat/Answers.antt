@@ -32,7 +32,7 @@ returns-in_err-chains g c =
     let slots = slots_in c.args.entries.now in
     let free = z / 4 * p.fat - (long_start p + p.sizes.long) in
     let all = table_is z p slots free c.requires.plan refl in
-    let chains = (rw (c.sector.ensures, c.long_start.ensures) at c.in_err-chains.ensures) in
+    let chains = (rw c.long_start.ensures at c.in_err-chains.ensures) in
     as_bytes all (sums_second c.from_residual-in_err-chains.ensures.0 c.in_ok-fronts.ensures (sums_first {r = Err c.in_err-chains.field-0.0} (words_bytes (replicate free FREE)) refl chains))
 
 pub returns-in_err-free : goal.returns-in_err-free
@@ -42,7 +42,7 @@ returns-in_err-free g c =
     let slots = slots_in c.args.entries.now in
     let free = z / 4 * p.fat - (long_start p + p.sizes.long) in
     let all = table_is z p slots free c.requires.plan refl in
-    let chains = (rw (c.sector.ensures, c.long_start.ensures) at c.in_ok-chains.ensures) in
+    let chains = (rw c.long_start.ensures at c.in_ok-chains.ensures) in
     let count : c.words.result * p.fat - (c.long_start-2.result + p.sizes.long) ≡ free = ap (λ (w : ℕ). w * p.fat - (c.long_start-2.result + p.sizes.long)) c.words.ensures ∙ ap (λ (l : ℕ). z / 4 * p.fat - (l + p.sizes.long)) c.long_start-2.ensures in
     let last = as_bytes (ap (λ (n : ℕ). words_bytes (replicate {A = ℕ} n FREE)) count) c.in_err-free.ensures in
     as_bytes all (sums_second c.from_residual-in_err-free.ensures.0 c.in_ok-fronts.ensures (sums_second {r = Err c.in_err-free.field-0.0} refl chains last))
@@ -54,7 +54,7 @@ returns g c =
     let slots = slots_in c.args.entries.now in
     let free = z / 4 * p.fat - (long_start p + p.sizes.long) in
     let all = table_is z p slots free c.requires.plan refl in
-    let chains = (rw (c.sector.ensures, c.long_start.ensures) at c.in_ok-chains.ensures) in
+    let chains = (rw c.long_start.ensures at c.in_ok-chains.ensures) in
     let count : c.words.result * p.fat - (c.long_start-2.result + p.sizes.long) ≡ free = ap (λ (w : ℕ). w * p.fat - (c.long_start-2.result + p.sizes.long)) c.words.ensures ∙ ap (λ (l : ℕ). z / 4 * p.fat - (l + p.sizes.long)) c.long_start-2.ensures in
     let last = as_bytes (ap (λ (n : ℕ). words_bytes (replicate {A = ℕ} n FREE)) count) c.in_ok-free.ensures in
     as_bytes all (sums_both {F = Failed} _ refl c.in_ok-fronts.ensures (sums_both {F = Failed} _ refl chains last))

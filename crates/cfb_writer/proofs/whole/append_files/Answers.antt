@@ -39,10 +39,8 @@ returns-in_err-mini g c =
 
 pub returns-in_err-long : goal.returns-in_err-long
 returns-in_err-long g c =
-    let last = (rw c.sector.ensures at c.in_err-long.ensures) in
-    sums_second c.from_residual-in_err-long.ensures.0 c.in_ok-directory.ensures (sums_second {r = Err c.in_err-long.field-0.0} refl c.in_ok-mini_fat.ensures (sums_second {r = Err c.in_err-long.field-0.0} refl c.in_ok-mini.ensures last))
+    sums_second c.from_residual-in_err-long.ensures.0 c.in_ok-directory.ensures (sums_second {r = Err c.in_err-long.field-0.0} refl c.in_ok-mini_fat.ensures (sums_second {r = Err c.in_err-long.field-0.0} refl c.in_ok-mini.ensures c.in_err-long.ensures))
 
 pub returns : goal.returns
 returns g c =
-    let last = (rw c.sector.ensures at c.in_ok-long.ensures) in
-    sums_both {F = Failed} _ refl c.in_ok-directory.ensures (sums_both {F = Failed} _ refl c.in_ok-mini_fat.ensures (sums_both {F = Failed} _ refl c.in_ok-mini.ensures last))
+    sums_both {F = Failed} _ refl c.in_ok-directory.ensures (sums_both {F = Failed} _ refl c.in_ok-mini_fat.ensures (sums_both {F = Failed} _ refl c.in_ok-mini.ensures c.in_ok-long.ensures))
