@@ -1,25 +1,21 @@
 -- Pairs in the order of their names.
-use Rattle.std.proofs.Common.{◌≡◌, ℕ, zero, suc, ◌+◌, ◌<◌, ◌≤◌, Bool, true, false, List, [], ◌∷◌, length, get_or, map, refl, sym, ap, subst, ◌∙◌, inl, inr, arith}
-use Rattle.std.specs.Prelude.{All, Contains, IsPermutation, Some, None, slice_get, nat_lt, nat_eq, if◌then◌else◌}
+use Rattle.std.proofs.Common.{◌≡◌, ℕ, ◌+◌, ◌-◌, ◌<◌, ◌≤◌, Bool, true, false, List, [], length, get_or, refl, sym, ap, subst, ◌∙◌, inl, inr, arith}
+use Rattle.std.specs.Prelude.{Contains, Option, Some, None, min, nat_lt, nat_eq, if◌then◌else◌}
 use Rattle.std.specs.Cmp.{IsTotalOrder}
-use Rattle.std.specs.List.Sorted.{IsSorted}
-use Rattle.std.specs.Ordering.{is_lt, nat_cmp, ordering_reverse, ordering_then}
+use Rattle.std.specs.List.Sorted.{IsSorted, IsSortedWithin}
+use Rattle.std.specs.Ordering.{is_eq, is_lt, nat_cmp, ordering_reverse, ordering_then}
 use Rattle.std.specs.declared.cmp.Ordering.{Ordering}
 use Rattle.std.specs.declared.cmp.Ordering.TheVariants.{Less, Equal, Greater}
 use Rattle.std.proofs.lemmas.Bool.{cases_lt}
 use Rattle.std.proofs.lemmas.Bool.Decides.{nat_tests}
 use Rattle.std.proofs.lemmas.Cmp.{nat_cmp_total, on_total, then_total, tied_itself}
-use Rattle.std.proofs.lemmas.List.{length-map, get_or_default}
-use Rattle.std.proofs.lemmas.List.Sorted.{All-permutation, Contains-permutation, IsPermutation-map, ranks_by, sorted_far}
-use Rattle.std.proofs.lemmas.Option.{get_or_from_slice_get}
+use Rattle.std.proofs.lemmas.List.{get_or_default}
+use Rattle.std.proofs.lemmas.List.Sorted.{ranks_by, sorted_far}
 use Rattle.carrier_model.specs.Keys.{Name, numbered, name_cmp}
 use Rattle.carrier_model.proofs.Orders.{name_total, name_exact}
 use Rattle.msg_model.specs.NameMap.{Pair}
-use Rattle.msg_nameid.specs.Maps.{IsLeastId, pair_of}
-use Rattle.msg_nameid.specs.Orders.{pair_cmp, pair_at, pair_by, IsOrderOf, IsFrontOf}
-use Rattle.msg_nameid.specs.Spots.{pair_in, spot_cmp, IsSpotOf, AreSpotsOf}
-use Rattle.msg_nameid.specs.declared.map.Entry.{Entry}
-use Rattle.msg_nameid.specs.declared.order.Spot.{Spot}
+use Rattle.msg_nameid.specs.Maps.{IsLeastId}
+use Rattle.msg_nameid.specs.Orders.{pair_cmp, pair_at, IsFrontOf, lower_id}
 
 pub pair_total : IsTotalOrder pair_cmp
 pair_total = then_total (on_total (λ (p : Pair). p.1) name_total) (on_total (λ (p : Pair). p.0) nat_cmp_total)
@@ -47,129 +43,150 @@ later_above p q name order ge = by (is_lt (name_cmp q.1 name)) refl
     by true e = absurd (let wrong : true ≡ false = sym (earlier_below p q name order e) ∙ ge in cc)
     by false e = e
 
+-- ---- pairs in order
+
+-- one pair more that isn't below the one before it
+pub order_grows : (pairs : List Pair) (k : ℕ) → k < length pairs → is_lt (pair_cmp (pair_at pairs k) (pair_at pairs (k - 1))) ≡ false → IsSortedWithin (λ p q. is_lt (pair_cmp p q)) pairs 0 k → IsSortedWithin (λ p q. is_lt (pair_cmp p q)) pairs 0 (k + 1)
+order_grows pairs k inside last up j d low lt = elim (cases_lt (j + 1) k) [
+  | inl before ↦ up j d low before
+  | inr from ↦
+      let one : pair_at pairs k ≡ get_or pairs (j + 1) d = ap (pair_at pairs) (let e : k ≡ j + 1 = omega (arith, from, lt) in e) ∙ get_or_default pairs (j + 1) (0, numbered [] 0) d (omega (arith, from, lt, inside)) in
+      let two : pair_at pairs (k - 1) ≡ get_or pairs j d = ap (pair_at pairs) (let e : k - 1 ≡ j = omega (arith, from, lt) in e) ∙ get_or_default pairs j (0, numbered [] 0) d (omega (arith, lt, inside)) in
+      subst (λ (p : Pair). is_lt (pair_cmp p (get_or pairs j d)) ≡ false) one (subst (λ (p : Pair). is_lt (pair_cmp (pair_at pairs k) p) ≡ false) two last)
+]
+
 -- ---- a search
 
-module _ (pairs : List Pair) (order : List ℕ) (name : Name) (o : IsOrderOf pairs order) where
-  -- all before a pair that is below the name
-  pub all_below : (m k : ℕ) → m < length order → is_lt (name_cmp (pair_by pairs order m).1 name) ≡ true → k < m + 1 → is_lt (name_cmp (pair_by pairs order k).1 name) ≡ true
-  all_below m k lt below before = earlier_below (pair_by pairs order k) (pair_by pairs order m) name (o.sorted k m (omega arith) lt) below
+pair_there : (pairs : List Pair) (k n : ℕ) (name : Name) → k < length pairs → get_or pairs k (n, name) ≡ (n, name) → pair_at pairs k ≡ (n, name)
+pair_there pairs k n name lt e = get_or_default pairs k (0, numbered [] 0) (n, name) lt ∙ e
 
-  -- all from a pair on that isn't below it
-  pub all_above : (m k : ℕ) → is_lt (name_cmp (pair_by pairs order m).1 name) ≡ false → m ≤ k → k < length order → is_lt (name_cmp (pair_by pairs order k).1 name) ≡ false
-  all_above m k above le lt = later_above (pair_by pairs order m) (pair_by pairs order k) name (o.sorted m k le lt) above
+module _ (pairs : List Pair) (up : IsSorted pair_cmp pairs) where
+  -- what stands behind isn't below
+  far : (i j : ℕ) → i ≤ j → j < length pairs → is_lt (pair_cmp (pair_at pairs j) (pair_at pairs i)) ≡ false
+  far i j = sorted_far (λ (p q : Pair). is_lt (pair_cmp p q)) (ranks_by pair_total (λ (p : Pair). p)) pairs up i j (0, numbered [] 0)
 
-  module _ (at : ℕ) (f : IsFrontOf pairs order name at) where
-    itself : (k n : ℕ) → pair_by pairs order k ≡ (n, name) → is_lt (name_cmp (pair_by pairs order k).1 name) ≡ true → ⊥
-    itself k n e h = let wrong : true ≡ false = sym h ∙ (ap (λ (p : Pair). is_lt (name_cmp p.1 name)) e ∙ ap is_lt (tied_itself name_total name)) in cc
+  module _ (name : Name) where
+    -- all before a pair that is below the name
+    pub all_below : (m k : ℕ) → m < length pairs → is_lt (name_cmp (pair_at pairs m).1 name) ≡ true → k < m + 1 → is_lt (name_cmp (pair_at pairs k).1 name) ≡ true
+    all_below m k lt below before = earlier_below (pair_at pairs k) (pair_at pairs m) name (far k m (omega arith) lt) below
 
-    -- where the name is, it is from the place on
-    behind : (k n : ℕ) → pair_by pairs order k ≡ (n, name) → at ≤ k
-    behind k n e = elim (cases_lt k at) [
-      | inl before ↦ absurd (itself k n e (f.below k before))
-      | inr from ↦ from
-    ]
+    -- all from a pair on that isn't below it
+    pub all_above : (m k : ℕ) → is_lt (name_cmp (pair_at pairs m).1 name) ≡ false → m ≤ k → k < length pairs → is_lt (name_cmp (pair_at pairs k).1 name) ≡ false
+    all_above m k above le lt = later_above (pair_at pairs m) (pair_at pairs k) name (far m k le lt) above
 
-    pub none_left : length order ≤ at → IsLeastId pairs name None
-    none_left le n c = let (k, lt, e) = o.whole (n, name) c in absurd (omega (arith, lt, le, behind k n e))
+    module _ (at : ℕ) (f : IsFrontOf pairs name at) where
+      itself : (k n : ℕ) → pair_at pairs k ≡ (n, name) → is_lt (name_cmp (pair_at pairs k).1 name) ≡ true → ⊥
+      itself k n e h = let wrong : true ≡ false = sym h ∙ (ap (λ (p : Pair). is_lt (name_cmp p.1 name)) e ∙ ap is_lt (tied_itself name_total name)) in cc
 
-    pub none_there : at < length order → (name_cmp (pair_by pairs order at).1 name ≡ Equal → ⊥) → IsLeastId pairs name None
-    none_there lt differ n c =
-        let (k, within, e) = o.whole (n, name) c in
-        let later : is_lt (pair_cmp (n, name) (pair_by pairs order at)) ≡ false = subst (λ (p : Pair). is_lt (pair_cmp p (pair_by pairs order at)) ≡ false) e (o.sorted at k (behind k n e) within) in
-        by n later (name_cmp (pair_by pairs order at).1 name) refl (f.above at (omega arith) lt)
+      -- where the name is, it is from the place on
+      behind : (k n : ℕ) → pair_at pairs k ≡ (n, name) → at ≤ k
+      behind k n e = elim (cases_lt k at) [
+        | inl before ↦ absurd (itself k n e (f.below k before))
+        | inr from ↦ from
+      ]
+
+      pub none_left : length pairs ≤ at → IsLeastId pairs name None
+      none_left le n (k, lt, e) = absurd (omega (arith, lt, le, behind k n (pair_there pairs k n name lt e)))
+
+      pub none_there : at < length pairs → (name_cmp (pair_at pairs at).1 name ≡ Equal → ⊥) → IsLeastId pairs name None
+      none_there lt differ n (k, within, e) =
+          let is = pair_there pairs k n name within e in
+          let later : is_lt (pair_cmp (n, name) (pair_at pairs at)) ≡ false = subst (λ (p : Pair). is_lt (pair_cmp p (pair_at pairs at)) ≡ false) is (far at k (behind k n is) within) in
+          by n later (name_cmp (pair_at pairs at).1 name) refl (f.above at (omega arith) lt)
+        where
+          by : (n : ℕ) → is_lt (pair_cmp (n, name) (pair_at pairs at)) ≡ false → (a : Ordering) → name_cmp (pair_at pairs at).1 name ≡ a → is_lt (name_cmp (pair_at pairs at).1 name) ≡ false → ⊥
+          by n later Less e above = let wrong : true ≡ false = sym (ap is_lt e) ∙ above in cc
+          by n later Equal e above = differ e
+          by n later Greater e above =
+              let turned : name_cmp name (pair_at pairs at).1 ≡ Less = name_total.antisymm name (pair_at pairs at).1 ∙ ap ordering_reverse e in
+              let wrong : true ≡ false = sym (ap (λ (b : Ordering). is_lt (ordering_then b (nat_cmp n (pair_at pairs at).0))) turned) ∙ later in cc
+
+      not_below : (m n : ℕ) → is_lt (nat_cmp m n) ≡ false → n ≤ m
+      not_below m n h = by (nat_lt m n) refl h
+        where
+          by : (b : Bool) → nat_lt m n ≡ b → is_lt (if b then Less else (if nat_eq m n then Equal else Greater)) ≡ false → n ≤ m
+          by true e h = absurd cc
+          by false e h = grind (arith, nat_tests)
+
+      pub least_there : at < length pairs → name_cmp (pair_at pairs at).1 name ≡ Equal → (id : ℕ) → id ≡ (pair_at pairs at).0 → IsLeastId pairs name (Some id)
+      least_there lt equal id is_id = (there, least)
+        where
+          here : pair_at pairs at ≡ (id, name)
+          here = let same : (pair_at pairs at).1 ≡ name = name_exact (pair_at pairs at).1 name equal in λ i. (sym is_id i, same i)
+
+          there : Contains pairs (id, name)
+          there = (at, lt, get_or_default pairs at (id, name) (0, numbered [] 0) lt ∙ here)
+
+          least : (n : ℕ) → Contains pairs (n, name) → id ≤ n
+          least n (k, within, e) =
+              let is = pair_there pairs k n name within e in
+              let later : is_lt (pair_cmp (n, name) (id, name)) ≡ false = subst (λ (p : Pair). is_lt (pair_cmp p (id, name)) ≡ false) is (subst (λ (q : Pair). is_lt (pair_cmp (pair_at pairs k) q) ≡ false) here (far at k (behind k n is) within)) in
+              not_below n id (sym (ap (λ (b : Ordering). is_lt (ordering_then b (nat_cmp n id))) (tied_itself name_total name)) ∙ later)
+
+-- ---- all pairs looked at
+
+pub is_equal : (a : Ordering) → is_eq a ≡ true → a ≡ Equal
+is_equal Less h = absurd cc
+is_equal Equal h = refl
+is_equal Greater h = absurd cc
+
+pub is_other : (a : Ordering) → is_eq a ≡ false → a ≡ Equal → ⊥
+is_other a h e = let wrong : true ≡ false = sym (ap is_eq e) ∙ h in cc
+
+-- the least id of a name among the first pairs
+abbrev pub IsLeastOf : List Pair → Name → ℕ → Option ℕ → Type 0
+IsLeastOf pairs name count None = (k n : ℕ) → k < count → pair_at pairs k ≡ (n, name) → ⊥
+IsLeastOf pairs name count (Some id) = ((k : ℕ) × (k < count) × (pair_at pairs k ≡ (id, name))) × ((k n : ℕ) → k < count → pair_at pairs k ≡ (n, name) → id ≤ n)
+
+pub least_of_all : (pairs : List Pair) (name : Name) (count : ℕ) (r : Option ℕ) → length pairs ≡ count → IsLeastOf pairs name count r → IsLeastId pairs name r
+least_of_all pairs name count None long h = λ n c. h c.0 n (omega (arith, long, c.1)) (pair_there pairs c.0 n name c.1 c.2)
+least_of_all pairs name count (Some id) long ((k, lt, e), least) = ((k, omega (arith, long, lt), get_or_default pairs k (id, name) (0, numbered [] 0) (omega (arith, long, lt)) ∙ e), all)
+  where
+    all : (n : ℕ) → Contains pairs (n, name) → id ≤ n
+    all n (j, within, is) = least j n (omega (arith, long, within)) (pair_there pairs j n name within is)
+
+module _ (pairs : List Pair) (name : Name) (k : ℕ) where
+  -- the pair at one of the first places, or at the place behind them
+  behind_them : (j n : ℕ) → k ≤ j → j < k + 1 → pair_at pairs j ≡ (n, name) → pair_at pairs k ≡ (n, name)
+  behind_them j n from before e = subst (λ (i : ℕ). pair_at pairs i ≡ (n, name)) {x = j} {y = k} (omega (arith, from, before)) e
+
+  -- one pair more, which has another name
+  pub next_differs : (r : Option ℕ) → (name_cmp (pair_at pairs k).1 name ≡ Equal → ⊥) → IsLeastOf pairs name k r → IsLeastOf pairs name (k + 1) r
+  next_differs None differ none = λ j n lt e. elim (cases_lt j k) [
+    | inl before ↦ none j n before e
+    | inr from ↦ differ (ap (λ (p : Pair). name_cmp p.1 name) (behind_them j n from lt e) ∙ tied_itself name_total name)
+  ]
+  next_differs (Some id) differ ((i, lt, is), least) = ((i, omega (arith, lt), is), all)
+    where
+      all : (j n : ℕ) → j < k + 1 → pair_at pairs j ≡ (n, name) → id ≤ n
+      all j n before e = elim (cases_lt j k) [
+        | inl first ↦ least j n first e
+        | inr from ↦ absurd (differ (ap (λ (p : Pair). name_cmp p.1 name) (behind_them j n from before e) ∙ tied_itself name_total name))
+      ]
+
+  -- one pair more, which has the name
+  module _ (id : ℕ) (here : pair_at pairs k ≡ (id, name)) where
+    its_id : (j n : ℕ) → k ≤ j → j < k + 1 → pair_at pairs j ≡ (n, name) → n ≡ id
+    its_id j n from before e = ap (λ (p : Pair). p.0) (sym (behind_them j n from before e) ∙ here)
+
+    pub next_same : (r : Option ℕ) → IsLeastOf pairs name k r → IsLeastOf pairs name (k + 1) (Some (lower_id r id))
+    next_same None none = ((k, omega arith, here), all)
       where
-        by : (n : ℕ) → is_lt (pair_cmp (n, name) (pair_by pairs order at)) ≡ false → (a : Ordering) → name_cmp (pair_by pairs order at).1 name ≡ a → is_lt (name_cmp (pair_by pairs order at).1 name) ≡ false → ⊥
-        by n later Less e above = let wrong : true ≡ false = sym (ap is_lt e) ∙ above in cc
-        by n later Equal e above = differ e
-        by n later Greater e above =
-            let turned : name_cmp name (pair_by pairs order at).1 ≡ Less = name_total.antisymm name (pair_by pairs order at).1 ∙ ap ordering_reverse e in
-            let wrong : true ≡ false = sym (ap (λ (b : Ordering). is_lt (ordering_then b (nat_cmp n (pair_by pairs order at).0))) turned) ∙ later in cc
-
-    not_below : (m n : ℕ) → is_lt (nat_cmp m n) ≡ false → n ≤ m
-    not_below m n h = by (nat_lt m n) refl h
+        all : (j n : ℕ) → j < k + 1 → pair_at pairs j ≡ (n, name) → id ≤ n
+        all j n before e = elim (cases_lt j k) [
+          | inl first ↦ absurd (none j n first e)
+          | inr from ↦ omega (arith, its_id j n from before e)
+        ]
+    next_same (Some found) ((i, lt, is), least) = (there, all)
       where
-        by : (b : Bool) → nat_lt m n ≡ b → is_lt (if b then Less else (if nat_eq m n then Equal else Greater)) ≡ false → n ≤ m
-        by true e h = absurd cc
-        by false e h = grind (arith, nat_tests)
+        there : (j : ℕ) × (j < k + 1) × (pair_at pairs j ≡ (min found id, name))
+        there = elim (cases_lt id found) [
+          | inl lower ↦ (k, omega arith, here ∙ ap (λ (n : ℕ). (n, name)) (let e : id ≡ min found id = omega (arith, lower) in e))
+          | inr first ↦ (i, omega (arith, lt), is ∙ ap (λ (n : ℕ). (n, name)) (let e : found ≡ min found id = omega (arith, first) in e))
+        ]
 
-    pub least_there : at < length order → name_cmp (pair_by pairs order at).1 name ≡ Equal → (id : ℕ) → id ≡ (pair_by pairs order at).0 → IsLeastId pairs name (Some id)
-    least_there lt equal id is_id = (there, least)
-      where
-        here : pair_by pairs order at ≡ (id, name)
-        here = let same : (pair_by pairs order at).1 ≡ name = name_exact (pair_by pairs order at).1 name equal in λ i. (sym is_id i, same i)
-
-        there : Contains pairs (id, name)
-        there = (get_or order at 0, o.inside at lt, get_or_default pairs (get_or order at 0) (id, name) (0, numbered [] 0) (o.inside at lt) ∙ here)
-
-        least : (n : ℕ) → Contains pairs (n, name) → id ≤ n
-        least n c =
-            let (k, within, e) = o.whole (n, name) c in
-            let later : is_lt (pair_cmp (n, name) (id, name)) ≡ false = subst (λ (p : Pair). is_lt (pair_cmp p (id, name)) ≡ false) e (subst (λ (q : Pair). is_lt (pair_cmp (pair_by pairs order k) q) ≡ false) here (o.sorted at k (behind k n e) within)) in
-            not_below n id (sym (ap (λ (b : Ordering). is_lt (ordering_then b (nat_cmp n id))) (tied_itself name_total name)) ∙ later)
-
--- ---- the order that a sort made
-
-some_at : {A : Type 0} (xs : List A) (k : ℕ) → k < length xs → (x : A) × (slice_get xs k ≡ Some x)
-some_at [] k lt = absurd (omega (arith, lt))
-some_at (x ∷ xs) zero lt = (x, refl)
-some_at (x ∷ xs) (suc k) lt = some_at xs k (omega (arith, lt))
-
-seen_at : {A B : Type 0} (f : A → B) (xs : List A) (k : ℕ) (x : A) (d : B) → slice_get xs k ≡ Some x → get_or (map f xs) k d ≡ f x
-seen_at f [] k x d h = absurd cc
-seen_at f (y ∷ xs) zero x d h = let e : y ≡ x = cc in ap f e
-seen_at f (y ∷ xs) (suc k) x d h = seen_at f xs k x d h
-
-module _ (entries : List Entry) (before spots : List Spot) (are : AreSpotsOf entries before) (moved : IsPermutation before spots) (up : IsSorted spot_cmp spots) where
-  abbrev pairs : List Pair
-  pairs = map pair_of entries
-
-  abbrev order : List ℕ
-  order = map (λ (s : Spot). s.place) spots
-
-  each : All (IsSpotOf entries) spots
-  each = All-permutation (IsSpotOf entries) before spots moved are.each
-
-  long : length order ≡ length spots
-  long = length-map spots (λ (s : Spot). s.place)
-
-  -- the spot at a place of the order
-  record SpotAt (k : ℕ) : Type 0 where
-    spot : Spot
-    there : slice_get spots k ≡ Some spot
-    inside : get_or order k 0 < length entries
-    pair : pair_by pairs order k ≡ pair_in spot
-
-  spot_at : (k : ℕ) → k < length order → SpotAt k
-  spot_at k lt =
-      let (s, there) = some_at spots k (omega (arith, lt, long)) in
-      let is : IsSpotOf entries s = subst (IsSpotOf entries) (get_or_from_slice_get spots k s s there) (each k s (omega (arith, lt, long))) in
-      let place : get_or order k 0 ≡ s.place = seen_at (λ (x : Spot). x.place) spots k s 0 there in
-      record {
-        spot = s;
-        there = there;
-        inside = omega (arith, place, is.0);
-        pair = ap (pair_at pairs) place ∙ is.1;
-      }
-
-  far : (i j : ℕ) (x y : Spot) → i ≤ j → j < length spots → slice_get spots i ≡ Some x → slice_get spots j ≡ Some y → is_lt (spot_cmp y x) ≡ false
-  far i j x y le lt a b =
-      subst (λ (z : Spot). is_lt (spot_cmp y z) ≡ false) (get_or_from_slice_get spots i x x a)
-      (subst (λ (z : Spot). is_lt (spot_cmp z (get_or spots i x)) ≡ false) (get_or_from_slice_get spots j y x b)
-      (sorted_far (λ (s t : Spot). is_lt (spot_cmp s t)) (ranks_by pair_total pair_in) spots up i j x le lt))
-
-  pub ordered : IsOrderOf pairs order
-  ordered = record {
-    inside = λ k lt. omega (arith, (spot_at k lt).inside, length-map entries pair_of);
-    sorted = λ i j le lt.
-        let a = spot_at i (omega (arith, le, lt)) in
-        let b = spot_at j lt in
-        subst (λ (p : Pair). is_lt (pair_cmp (pair_by pairs order j) p) ≡ false) (sym a.pair)
-        (subst (λ (p : Pair). is_lt (pair_cmp p (pair_in a.spot)) ≡ false) (sym b.pair)
-        (far i j a.spot b.spot le (omega (arith, lt, long)) a.there b.there));
-    whole = λ p c.
-        let same : IsPermutation pairs (map pair_in spots) = subst (λ (l : List Pair). IsPermutation l (map pair_in spots)) are.all (IsPermutation-map pair_in before spots moved) in
-        let (k, lt, e) = Contains-permutation pairs (map pair_in spots) p same c in
-        let within : k < length order = omega (arith, lt, long, length-map spots pair_in) in
-        let a = spot_at k within in
-        (k, within, a.pair ∙ (sym (seen_at pair_in spots k a.spot p a.there) ∙ e));
-  }
+        all : (j n : ℕ) → j < k + 1 → pair_at pairs j ≡ (n, name) → min found id ≤ n
+        all j n before e = elim (cases_lt j k) [
+          | inl first ↦ omega (arith, least j n first e)
+          | inr from ↦ omega (arith, its_id j n from before e)
+        ]

@@ -4,5 +4,4 @@ pub mod Gathered
 pub mod Maps
 pub mod Orders
 pub mod Read
-pub mod Spots
 pub mod Tables

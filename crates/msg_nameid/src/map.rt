@@ -7,7 +7,7 @@ ghost use Rattle.prop_names.specs.Meaning.{name_of};
 ghost use Rattle.msg_nameid.specs.Drafts.{IsWhole, pairs_in};
 
 use crate::drafts::Draft;
-use crate::order::{least_id, order_of};
+use crate::order::{are_in_order, least_id, least_id_near};
 use crate::slots::{Slot, Slots};
 use carrier_io::NoMemory;
 use prop_names::{Name, NameSet};
@@ -27,16 +27,17 @@ pub struct NameMap {
     pub(crate) entries: Vec<Entry>,
     // What each property index has.
     slots: Slots,
-    // The places of the entries, by name and then by id.
-    order: Vec<u16>,
+    // Whether the entries are known to stand in the order of their names.
+    is_in_order: bool,
 }
 
 impl Model for NameMap {
-    ghost use Rattle.std.specs.Prelude.{List, map, All};
+    ghost use Rattle.std.specs.Prelude.{List, map, All, IsTrue};
+    ghost use Rattle.std.specs.List.Sorted.{IsSorted};
     ghost use Rattle.carrier_model.specs.Keys.{IsName};
     ghost use Rattle.msg_model.specs.NameMap.{Pair};
     ghost use Rattle.msg_nameid.specs.Maps.{pair_of, names_in};
-    ghost use Rattle.msg_nameid.specs.Orders.{IsOrderOf};
+    ghost use Rattle.msg_nameid.specs.Orders.{pair_cmp};
     ghost use Rattle.msg_nameid.specs.Tables.{IsTable};
 
     ghost Value = { List Pair };
@@ -46,7 +47,7 @@ impl Model for NameMap {
     ghost invariant = { λ s. record {
       table : IsTable s.slots (map pair_of s.entries.items);
       names : All IsName (names_in (map pair_of s.entries.items));
-      order : IsOrderOf (map pair_of s.entries.items) s.order.items;
+      order : IsTrue s.is_in_order → IsSorted pair_cmp (map pair_of s.entries.items);
     } };
 }
 
@@ -65,21 +66,21 @@ impl NameMap {
             let name = names.get(k).copy(alloc)?;
             draft.add_name(k as u16, name)?;
         }
-        NameMap::from_draft(alloc, draft)
+        Ok(NameMap::from_draft(draft))
     }
 
     /// The map of names that were gathered.
-    pub(crate) fn from_draft(alloc: Global, draft: Draft) -> Result<NameMap, NoMemory>
+    pub(crate) fn from_draft(draft: Draft) -> NameMap
         requires { IsWhole draft }
-        ensures { IfOk result (λ m. m ≡ pairs_in draft) }
+        ensures { result ≡ pairs_in draft }
     {
         let Draft { entries, slots } = draft;
-        let order = order_of(alloc, &entries)?;
-        Ok(NameMap {
+        let is_in_order = are_in_order(&entries);
+        NameMap {
             entries,
             slots,
-            order,
-        })
+            is_in_order,
+        }
     }
 
     /// The name for which an id stands; None where it stands for none.
@@ -97,13 +98,17 @@ impl NameMap {
         }
     }
 
-    /// The least id of a name; None where it has none. It is found at once where the id was guessed and names have ids
-    /// in their order, and sooner where the guess is near.
+    /// The least id of a name; None where it has none. Where names have ids in their order, as in a map that was assigned,
+    /// it is found at once if it was guessed, and sooner where the guess is near; else all entries are looked at.
     pub fn id_of(&self, name: &Name, guess: u16) -> Option<u16>
         ensures least { IsLeastId self.now (name_of name.now) result }
         ensures assigned { IsAssigned self.now → Contains (names_in self.now) (name_of name.now) → result ≡ Some (keys.id_of (names_in self.now) (name_of name.now)) }
     {
-        let place = usize::from(guess).saturating_sub(0x8000);
-        least_id(&self.entries, &self.order, name, place)
+        if self.is_in_order {
+            let place = usize::from(guess).saturating_sub(0x8000);
+            least_id_near(&self.entries, name, place)
+        } else {
+            least_id(&self.entries, name)
+        }
     }
 }

@@ -90,7 +90,7 @@ fn read_entries(alloc: Global, streams: NameStreams<'_, '_>) -> Result<NameMap, 
         let entry = entry_at(streams.entries, k);
         add_entry(alloc, streams, entry, &mut draft)?;
     }
-    Ok(NameMap::from_draft(alloc, draft)?)
+    Ok(NameMap::from_draft(draft))
 }
 
 /// The names of the storage of a name map. An absent stream is empty.
@@ -123,7 +123,7 @@ impl NameMap {
         let empty = StreamView::empty(alloc);
         match files.storage(files.root(), NAME_MAP) {
             Some(at) => read_storage(alloc, files, at, &empty),
-            None => Ok(NameMap::from_draft(alloc, Draft::new(alloc))?),
+            None => Ok(NameMap::from_draft(Draft::new(alloc))),
         }
     }
 }

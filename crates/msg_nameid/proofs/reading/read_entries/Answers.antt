@@ -38,4 +38,4 @@ returns c =
     let last : l.k ≡ c.len-k-end.result / 8 = omega (arith, c.loop-k-test.false, l.auto.k-end) in
     let all : map (name_entry s.entries) (range_with_len 0 l.k) ≡ name_entries s.entries =
     ap (λ (m : ℕ). map (name_entry s.entries) (range_with_len 0 m)) last ∙ ap (λ (m : ℕ). map (name_entry s.entries) (range_with_len 0 (m / 8))) c.len-k-end.ensures in
-    read_all s l.draft l.k l.invariant all ∙ ap Ok (sym c.in_ok-from_draft.ensures)
+    read_all s l.draft l.k l.invariant all ∙ ap Ok (sym c.from_draft.ensures)

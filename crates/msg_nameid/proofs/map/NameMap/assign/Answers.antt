@@ -2,7 +2,6 @@ use Rattle.std.proofs.Common.{◌≡◌, ◌∙◌, ◌+◌, ◌<◌, ◌≤◌,
 use Rattle.std.specs.Prelude.{◌||◌}
 use Rattle.std.proofs.lemmas.Bool.{ne_eqb}
 use Rattle.std.proofs.lemmas.Option.{get_or_from_slice_get}
-use Rattle.std.proofs.lemmas.Result.{IfOk-weaker}
 use Rattle.carrier_model.specs.Keys.{Name}
 use Rattle.msg_model.specs.NameMap.{pairs_from}
 use Rattle.prop_names.specs.Meaning.{name_of}
@@ -33,4 +32,4 @@ returns-clause-assigned c =
     let names = c.args.names.now in
     let l = c.loop-k in
     let all : length names ≤ l.k = omega (arith, c.loop-k-test.false, c.len-k-end.ensures) in
-    IfOk-weaker c.from_draft.result _ _ (λ m is. subst IsAssigned (sym (is ∙ (l.invariant.pairs ∙ ap (pairs_from 0) (take_all l.k names all)))) (from_is_assigned names (looked_at names l.k all l.invariant.sorted) c.requires.few)) c.from_draft.ensures
+    subst IsAssigned (sym (c.from_draft.ensures ∙ (l.invariant.pairs ∙ ap (pairs_from 0) (take_all l.k names all)))) (from_is_assigned names (looked_at names l.k all l.invariant.sorted) c.requires.few)

@@ -30,12 +30,12 @@ returns-clause-answer c =
     let f = c.args.files.now in
     let absent : None ≡ storage_named (files_seen f).children NAME_MAP = c.in-None.ensures.found NAME_MAP map_text ∙ ap (λ (x : Files). storage_named x.children NAME_MAP) c.root.ensures.seen in
     ap (λ (o : Option Files). pairs_of (name_streams_in (streams_of o))) (sym absent)
-    ∙ (none_named _ _ ∙ ap Ok (sym (c.in_ok-from_draft-in-None.ensures ∙ c.new.ensures.none.pairs)))
+    ∙ (none_named _ _ ∙ ap Ok (sym (c.from_draft.ensures ∙ c.new.ensures.none.pairs)))
 
 pub returns-clause-both : goal.returns-clause-both
 returns-clause-both c =
     let f = c.args.files.now in
     let absent : None ≡ storage_named (files_seen f).children NAME_MAP = c.in-None.ensures.found NAME_MAP map_text ∙ ap (λ (x : Files). storage_named x.children NAME_MAP) c.root.ensures.seen in
-    both_sides (λ (m : List Pair). m) (Ok c.in_ok-from_draft-in-None.field-0) (name_streams (files_seen f))
+    both_sides (λ (m : List Pair). m) (Ok c.from_draft.result) (name_streams (files_seen f))
     (ap (λ (o : Option Files). pairs_of (name_streams_in (streams_of o))) (sym absent)
-    ∙ (none_named _ _ ∙ ap Ok (sym (c.in_ok-from_draft-in-None.ensures ∙ c.new.ensures.none.pairs))))
+    ∙ (none_named _ _ ∙ ap Ok (sym (c.from_draft.ensures ∙ c.new.ensures.none.pairs))))
