@@ -15,7 +15,7 @@ use outlook_status::Status;
 use std::alloc::Global;
 use translate_core::{Input, PutEnd, accept, write_msg};
 use tree_edit::{EditEnd, edit_owned};
-use tree_text8::{TextEnd, unicode_of};
+use tree_text8::{TextEnd, is_unicode, unicode_of};
 
 /// Writes the .msg file of a message. [MS-OXMSG 2.3]
 pub fn write_file<B: Blob, O: Sink>(alloc: Global, tree: &Tree<B>, output: &mut O) -> Status
@@ -43,7 +43,8 @@ fn without_unicode(end: TextEnd) -> Status
     }
 }
 
-/// Writes the file of a message with its texts of 8-bit characters in 16-bit units. The message itself is gone by then.
+/// Writes the file of a message with its texts of 8-bit characters in 16-bit units. Where it has none that is converted,
+/// this is the file of the message itself; else the message is gone by then.
 fn write_unicode<B: Blob, O: Sink>(alloc: Global, tree: Tree<B>, output: &mut O) -> Status
     ensures puts { (bytes : List ℕ) → PutsChange (changed to_unicode (plain_of tree)) bytes (O.held output.old) (O.held output.new) result }
     ensures nothing { WritesNothing result output.old output.new }
@@ -51,6 +52,9 @@ fn write_unicode<B: Blob, O: Sink>(alloc: Global, tree: Tree<B>, output: &mut O)
     ensures no_usage { result ≡ Status.Usage → ⊥ }
     ensures no_read_fault { result ≡ Status.ReadFault → ⊥ }
 {
+    if is_unicode(&tree) {
+        return write_file(alloc, &tree, output);
+    }
     let converted = unicode_of(alloc, &tree);
     drop(tree);
     match converted {

@@ -8,7 +8,7 @@ use prop_names::Key;
 use prop_values::{Kind, Prop, Props, Value};
 use std::alloc::Global;
 use std::test::*;
-use tree_text8::{Page, TextEnd, Unmapped, Why, page_of, unicode_of};
+use tree_text8::{Page, TextEnd, Unmapped, Why, is_unicode, page_of, unicode_of};
 
 type Text = &'static [u8];
 
@@ -95,6 +95,7 @@ fn texts_in_units(rt: HostRuntime) -> Result<(), Fail> {
         let expected = tree_of(rt.alloc(), wide_subject(wide)?, Some(number))?;
         let made = unicode_of(rt.alloc(), &tree)?;
         assert!(rt; same(&made, &expected), "{number}");
+        assert!(rt; !is_unicode(&tree) && is_unicode(&made), "{number}");
     }
     Ok(())
 }

@@ -3,6 +3,7 @@ mod Folds
 mod Numbers
 mod Pairs
 mod Runs
+mod Selves
 mod Steps
 mod Walked
 mod Whole

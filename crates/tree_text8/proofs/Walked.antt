@@ -1,8 +1,7 @@
 -- One turn of a walk: what is unmapped so far is nothing, or the first is found.
-use Rattle.std.proofs.Common.{◌≡◌, ◌∙◌, refl, sym, ap, subst, ℕ, ◌+◌, Bool, false, List, [], ◌∷◌, ◌++◌, take, drop, map, add_assoc}
-use Rattle.std.specs.Prelude.{All, Some, slice_get, if◌then◌else◌}
-use Rattle.std.proofs.lemmas.List.Elements.{All-head, All-tail, All-more}
-use Rattle.std.proofs.lemmas.Option.{slice_get_within, get_or_from_slice_get}
+use Rattle.std.proofs.Common.{◌≡◌, ◌∙◌, refl, sym, ap, subst, ℕ, ◌+◌, Bool, true, false, List, [], ◌∷◌, ◌++◌, drop, map, add_assoc}
+use Rattle.std.specs.Prelude.{◌||◌, Some, slice_get, if◌then◌else◌}
+use Rattle.std.specs.List.{list_any}
 use Rattle.carrier_model.specs.Lists.{first_of_list}
 use Rattle.carrier_model.specs.Values.{Prop}
 use Rattle.carrier_model.proofs.Trees.{drop_at}
@@ -45,22 +44,25 @@ module _ (code : ℕ) (props : List Prop) (first k number : ℕ) (p : Prop) (at 
 
 -- ---- lists in which nothing is converted
 
+pub neither : (a b : Bool) → (a || b) ≡ false → (a ≡ false) × (b ≡ false)
+neither true b h = absurd cc
+neither false b h = (refl, h)
+
 when_not : (b : Bool) (code : ℕ) (p : Prop) → b ≡ false → (if b then record { key = p.key; value = value_by (page_of code) p.value } else p) ≡ p
 when_not b code p e = rw e refl
 
-pub none_converted : (code : ℕ) (props ps : List Prop) → All (λ p. is_to_convert props p ≡ false) ps → map (converted_prop code props) ps ≡ ps
-none_converted code props [] all = refl
-none_converted code props (p ∷ ps) all =
-    let one = when_not (is_to_convert props p) code p (All-head (λ q. is_to_convert props q ≡ false) p ps all) in
-    let rest = none_converted code props ps (All-tail (λ q. is_to_convert props q ≡ false) p ps all) in
+pub none_converted : (code : ℕ) (props ps : List Prop) → list_any (is_to_convert props) ps ≡ false → map (converted_prop code props) ps ≡ ps
+none_converted code props [] none = refl
+none_converted code props (p ∷ ps) none =
+    let (here, behind) = neither (is_to_convert props p) (list_any (is_to_convert props) ps) none in
+    let one = when_not (is_to_convert props p) code p here in
+    let rest = none_converted code props ps behind in
     λ i. one i ∷ rest i
 
-pub none_bad : (code : ℕ) (props : List Prop) (n : ℕ) (ps : List Prop) → All (λ p. is_to_convert props p ≡ false) ps → bad_from code props n ps ≡ []
-none_bad code props n [] all = refl
-none_bad code props n (p ∷ ps) all =
-    let one : bad_prop code props n p ≡ [] = ap (λ b. if b then bad_value code n (page_of code) p.value else []) (All-head (λ q. is_to_convert props q ≡ false) p ps all) in
-    let rest = none_bad code props (n + 1) ps (All-tail (λ q. is_to_convert props q ≡ false) p ps all) in
+pub none_bad : (code : ℕ) (props : List Prop) (n : ℕ) (ps : List Prop) → list_any (is_to_convert props) ps ≡ false → bad_from code props n ps ≡ []
+none_bad code props n [] none = refl
+none_bad code props n (p ∷ ps) none =
+    let (here, behind) = neither (is_to_convert props p) (list_any (is_to_convert props) ps) none in
+    let one : bad_prop code props n p ≡ [] = ap (λ b. if b then bad_value code n (page_of code) p.value else []) here in
+    let rest = none_bad code props (n + 1) ps behind in
     λ i. one i ++ rest i
-
-pub all_more : {A : Type 0} (P : A → Type 0) (xs : List A) (k : ℕ) (x : A) → slice_get xs k ≡ Some x → All P (take k xs) → P x → All P (take (k + 1) xs)
-all_more P xs k x at all here = All-more P xs k x (slice_get_within xs k x at) all (subst P (sym (get_or_from_slice_get xs k x x at)) here)

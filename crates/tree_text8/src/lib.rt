@@ -3,6 +3,7 @@
 
 mod conversion;
 mod ends;
+mod narrow;
 mod pages;
 mod properties;
 mod singles;
@@ -10,6 +11,6 @@ mod texts;
 mod trees;
 mod values;
 
-pub use conversion::unicode_of;
+pub use conversion::{is_unicode, unicode_of};
 pub use ends::{TextEnd, Unmapped, Why};
 pub use pages::{Page, page_of};

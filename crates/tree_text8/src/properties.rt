@@ -1,5 +1,5 @@
 //! Properties whose texts are converted.
-ghost use Rattle.std.specs.Prelude.{◌≡◌, ◌+◌, ◌++◌, ◌∷◌, [], length, false, All, IsTrue, OnOk, IfOk, IfErr};
+ghost use Rattle.std.specs.Prelude.{◌≡◌, ◌+◌, ◌++◌, ◌∷◌, [], length, All, IsTrue, OnOk, IfOk, IfErr};
 ghost use Rattle.std.specs.Option.{option_map};
 ghost use Rattle.carrier_model.specs.Sorted.{IsStrictlySorted};
 ghost use Rattle.carrier_model.specs.Values.{prop_cmp};
@@ -7,6 +7,7 @@ ghost use Rattle.text8_model.specs.Unicode as plain;
 ghost use Rattle.prop_values.specs.Kinds.{kind_number};
 ghost use Rattle.prop_values.specs.Meaning.{value_of};
 ghost use Rattle.tree_text8.specs.Ends.{IsEndOf};
+ghost use Rattle.tree_text8.specs.Narrow.{are_narrow};
 ghost use Rattle.tree_text8.specs.Walks.{AreOne};
 
 use crate::ends::{TextEnd, Unmapped, Why};
@@ -93,9 +94,9 @@ fn append(all: &mut Props<Vec<u8>>, prop: Prop<Vec<u8>>) -> Result<(), NoMemory>
 }
 
 /// Whether any property of a list is converted.
-fn any_to_convert<B: Blob>(props: &Props<B>) -> bool
-    ensures any { IsTrue result → IsStrictlySorted prop_cmp props.now }
-    ensures none { result ≡ false → All (λ (p : _). plain.is_to_convert props.now p ≡ false) props.now }
+pub(crate) fn any_to_convert<B: Blob>(props: &Props<B>) -> bool
+    ensures value { result ≡ are_narrow props.now }
+    ensures sorted { IsTrue result → IsStrictlySorted prop_cmp props.now }
 {
     for k in 0..props.len() {
         if is_to_convert(props, props.get(k)) {
