@@ -1,20 +1,23 @@
 -- Pairs in the order of their names.
-use Rattle.std.proofs.Common.{◌≡◌, ℕ, ◌+◌, ◌-◌, ◌<◌, ◌≤◌, Bool, true, false, List, [], length, get_or, refl, sym, ap, subst, ◌∙◌, inl, inr, arith}
+use Rattle.std.proofs.Common.{◌≡◌, ℕ, ◌+◌, ◌<◌, ◌≤◌, Bool, true, false, not, List, [], ◌∷◌, length, map, get_or, refl, sym, ap, ap₂, subst, ◌∙◌, inl, inr, arith}
 use Rattle.std.specs.Prelude.{Contains, Option, Some, None, min, nat_lt, nat_eq, if◌then◌else◌}
 use Rattle.std.specs.Cmp.{IsTotalOrder}
-use Rattle.std.specs.List.Sorted.{IsSorted, IsSortedWithin}
+use Rattle.std.specs.List.{AllAdjacentBelow, IsAllAdjacentAnswer}
+use Rattle.std.specs.Bool.{IsTrue}
+use Rattle.std.specs.List.Sorted.{IsSorted}
 use Rattle.std.specs.Ordering.{is_eq, is_lt, nat_cmp, ordering_reverse, ordering_then}
 use Rattle.std.specs.declared.cmp.Ordering.{Ordering}
 use Rattle.std.specs.declared.cmp.Ordering.TheVariants.{Less, Equal, Greater}
 use Rattle.std.proofs.lemmas.Bool.{cases_lt}
 use Rattle.std.proofs.lemmas.Bool.Decides.{nat_tests}
 use Rattle.std.proofs.lemmas.Cmp.{nat_cmp_total, on_total, then_total, tied_itself}
-use Rattle.std.proofs.lemmas.List.{get_or_default}
+use Rattle.std.proofs.lemmas.List.{get_or_default, get_or-map, length-map}
 use Rattle.std.proofs.lemmas.List.Sorted.{ranks_by, sorted_far}
 use Rattle.carrier_model.specs.Keys.{Name, numbered, name_cmp}
 use Rattle.carrier_model.proofs.Orders.{name_total, name_exact}
 use Rattle.msg_model.specs.NameMap.{Pair}
-use Rattle.msg_nameid.specs.Maps.{IsLeastId}
+use Rattle.msg_nameid.specs.declared.map.Entry.{Entry}
+use Rattle.msg_nameid.specs.Maps.{IsLeastId, pair_of}
 use Rattle.msg_nameid.specs.Orders.{pair_cmp, pair_at, IsFrontOf, lower_id}
 
 pub pair_total : IsTotalOrder pair_cmp
@@ -45,15 +48,45 @@ later_above p q name order ge = by (is_lt (name_cmp q.1 name)) refl
 
 -- ---- pairs in order
 
--- one pair more that isn't below the one before it
-pub order_grows : (pairs : List Pair) (k : ℕ) → k < length pairs → is_lt (pair_cmp (pair_at pairs k) (pair_at pairs (k - 1))) ≡ false → IsSortedWithin (λ p q. is_lt (pair_cmp p q)) pairs 0 k → IsSortedWithin (λ p q. is_lt (pair_cmp p q)) pairs 0 (k + 1)
-order_grows pairs k inside last up j d low lt = elim (cases_lt (j + 1) k) [
-  | inl before ↦ up j d low before
-  | inr from ↦
-      let one : pair_at pairs k ≡ get_or pairs (j + 1) d = ap (pair_at pairs) (let e : k ≡ j + 1 = omega (arith, from, lt) in e) ∙ get_or_default pairs (j + 1) (0, numbered [] 0) d (omega (arith, from, lt, inside)) in
-      let two : pair_at pairs (k - 1) ≡ get_or pairs j d = ap (pair_at pairs) (let e : k - 1 ≡ j = omega (arith, from, lt) in e) ∙ get_or_default pairs j (0, numbered [] 0) d (omega (arith, lt, inside)) in
-      subst (λ (p : Pair). is_lt (pair_cmp p (get_or pairs j d)) ≡ false) one (subst (λ (p : Pair). is_lt (pair_cmp (pair_at pairs k) p) ≡ false) two last)
-]
+abbrev pub comes_first : Entry → Entry → Bool
+comes_first one other = not (is_lt (pair_cmp (pair_of other) (pair_of one)))
+
+isn't_below : (b : Bool) → true ≡ not b → b ≡ false
+isn't_below true h = absurd cc
+isn't_below false h = refl
+
+is_below : (b : Bool) → false ≡ not b → b ≡ true
+is_below true h = refl
+is_below false h = absurd cc
+
+-- each entry comes before the next one, or is below none
+sorted_where : (entries : List Entry) → AllAdjacentBelow (λ one other. true ≡ comes_first one other) entries (length entries) → IsSorted pair_cmp (map pair_of entries)
+sorted_where [] all k d low lt = absurd (omega (arith, lt))
+sorted_where (e ∷ entries) all k d low lt =
+    let inside : k + 1 < length (e ∷ entries) = omega (arith, lt, length-map (e ∷ entries) pair_of) in
+    let one : get_or (map pair_of (e ∷ entries)) k d ≡ pair_of (get_or (e ∷ entries) k e) = get_or-map pair_of (e ∷ entries) k e d (omega (arith, inside)) in
+    let next : get_or (map pair_of (e ∷ entries)) (k + 1) d ≡ pair_of (get_or (e ∷ entries) (k + 1) e) = get_or-map pair_of (e ∷ entries) (k + 1) e d inside in
+    ap₂ (λ (p q : Pair). is_lt (pair_cmp p q)) next one ∙ isn't_below (is_lt (pair_cmp (pair_of (get_or (e ∷ entries) (k + 1) e)) (pair_of (get_or (e ∷ entries) k e)))) (all k e inside)
+
+unsorted_where : (entries : List Entry) (k : ℕ) → k + 1 < length entries → ((d : Entry) → false ≡ comes_first (get_or entries k d) (get_or entries (k + 1) d)) → IsSorted pair_cmp (map pair_of entries) → ⊥
+unsorted_where [] k inside below up = omega (arith, inside)
+unsorted_where (e ∷ entries) k inside below up =
+    let p : Pair = pair_of e in
+    let one : get_or (map pair_of (e ∷ entries)) k p ≡ pair_of (get_or (e ∷ entries) k e) = get_or-map pair_of (e ∷ entries) k e p (omega (arith, inside)) in
+    let next : get_or (map pair_of (e ∷ entries)) (k + 1) p ≡ pair_of (get_or (e ∷ entries) (k + 1) e) = get_or-map pair_of (e ∷ entries) (k + 1) e p inside in
+    let wrong : true ≡ false = sym (ap₂ (λ (a b : Pair). is_lt (pair_cmp a b)) next one ∙ is_below (is_lt (pair_cmp (pair_of (get_or (e ∷ entries) (k + 1) e)) (pair_of (get_or (e ∷ entries) k e)))) (below e)) ∙ up k p (omega arith) (omega (arith, inside, length-map (e ∷ entries) pair_of)) in
+    cc
+
+abbrev ComesFirstEverywhere : List Entry → Bool → Type 0
+ComesFirstEverywhere = IsAllAdjacentAnswer (λ one other b. b ≡ comes_first one other)
+
+pub sorted_at : (entries : List Entry) (answer : Bool) → ComesFirstEverywhere entries answer → IsTrue answer → IsSorted pair_cmp (map pair_of entries)
+sorted_at entries true all sorted = sorted_where entries all
+sorted_at entries false found sorted = absurd cc
+
+pub unsorted_at : (entries : List Entry) (answer : Bool) → ComesFirstEverywhere entries answer → answer ≡ false → IsSorted pair_cmp (map pair_of entries) → ⊥
+unsorted_at entries true all h up = absurd cc
+unsorted_at entries false found h up = unsorted_where entries found.0 found.1 found.2 up
 
 -- ---- a search
 

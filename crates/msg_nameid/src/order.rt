@@ -1,5 +1,5 @@
 //! Entries by their names.
-ghost use Rattle.std.specs.Prelude.{◌≡◌, ◌<◌, ◌≤◌, false, length, map, IsTrue};
+ghost use Rattle.std.specs.Prelude.{◌≡◌, ◌<◌, ◌≤◌, false, not, length, map, IsTrue};
 ghost use Rattle.std.specs.List.Sorted.{IsSorted};
 ghost use Rattle.std.specs.Ordering.{is_lt};
 ghost use Rattle.prop_names.specs.Meaning.{name_of};
@@ -21,7 +21,7 @@ fn is_below(one: &Entry, other: &Entry) -> bool
 }
 
 /// The entry that is k-th.
-fn entry_at(entries: &[Entry], k: usize) -> &Entry
+fn nth(entries: &[Entry], k: usize) -> &Entry
     requires { k < length entries.now }
     ensures { pair_of result.now ≡ pair_at (map pair_of entries.now) k }
 {
@@ -33,12 +33,11 @@ pub fn are_in_order(entries: &[Entry]) -> bool
     ensures yes { IsTrue result → IsSorted pair_cmp (map pair_of entries.now) }
     ensures no { result ≡ false → IsSorted pair_cmp (map pair_of entries.now) → ⊥ }
 {
-    for k in 1..entries.len() {
-        if is_below(entry_at(entries, k), entry_at(entries, k - 1)) {
-            return false;
-        }
-    }
-    true
+    entries.is_sorted_by(
+        |one: &Entry, other: &Entry| -> bool
+            ensures { result ≡ not (is_lt (pair_cmp (pair_of other.now) (pair_of one.now))) }
+        { !is_below(other, one) },
+    )
 }
 
 /// Where to look among the places from one up to another: at a guess that is one of them, else in their middle.
@@ -67,7 +66,7 @@ fn count_below(entries: &[Entry], name: &Name, guess: usize) -> usize
         let place = probe(low, high, guess);
         let distance = step;
         step = distance.saturating_mul(2);
-        if entry_at(entries, place).name.order(name).is_lt() {
+        if nth(entries, place).name.order(name).is_lt() {
             low = place + 1;
             guess = place.saturating_add(distance);
         } else {
@@ -87,7 +86,7 @@ pub fn least_id_near(entries: &[Entry], name: &Name, guess: usize) -> Option<u16
     if at >= entries.len() {
         return None;
     }
-    let entry = entry_at(entries, at);
+    let entry = nth(entries, at);
     match entry.name.order(name) {
         Ordering::Equal => Some(entry.id),
         _ => None,
@@ -110,7 +109,7 @@ pub fn least_id(entries: &[Entry], name: &Name) -> Option<u16>
 {
     let mut least = None;
     for k in 0..entries.len() {
-        let entry = entry_at(entries, k);
+        let entry = nth(entries, k);
         if entry.name.order(name).is_eq() {
             least = Some(lower(least, entry.id));
         }

@@ -17,7 +17,7 @@ loop-low-preserved-then-is_lt c =
     let m = c.probe-place.result in
     let within : m < length pairs = omega (arith, c.loop-low-test.true, l.invariant.within, length-map c.args.entries.now pair_of) in
     let below : is_lt (name_cmp (pair_at pairs m).1 name) ≡ true =
-    ap (λ (p : Pair). is_lt (name_cmp p.1 name)) (sym c.entry_at.ensures) ∙ (ap is_lt (sym c.order.ensures.order) ∙ (sym c.is_lt.ensures ∙ c.if-is_lt.true)) in
+    ap (λ (p : Pair). is_lt (name_cmp p.1 name)) (sym c.nth.ensures) ∙ (ap is_lt (sym c.order.ensures.order) ∙ (sym c.is_lt.ensures ∙ c.if-is_lt.true)) in
     record {
       ordered = omega arith;
       within = l.invariant.within;
@@ -32,7 +32,7 @@ loop-low-preserved c =
     let l = c.loop-low in
     let m = c.probe-place.result in
     let above : is_lt (name_cmp (pair_at pairs m).1 name) ≡ false =
-    ap (λ (p : Pair). is_lt (name_cmp p.1 name)) (sym c.entry_at.ensures) ∙ (ap is_lt (sym c.order.ensures.order) ∙ (sym c.is_lt.ensures ∙ c.if-is_lt.false)) in
+    ap (λ (p : Pair). is_lt (name_cmp p.1 name)) (sym c.nth.ensures) ∙ (ap is_lt (sym c.order.ensures.order) ∙ (sym c.is_lt.ensures ∙ c.if-is_lt.false)) in
     record {
       ordered = omega arith;
       within = omega (arith, c.loop-low-test.true, l.invariant.within);

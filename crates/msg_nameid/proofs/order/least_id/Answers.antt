@@ -17,14 +17,14 @@ loop-k-preserved c =
     let pairs = map pair_of c.args.entries.now in
     let name = name_of c.args.name.now in
     let k = c.loop-k.k in
-    let e = c.entry_at-entry.result.now in
+    let e = c.nth-entry.result.now in
     elim c.if-is_eq.branch [
       | then-is_eq w ↦
           let equal : name_cmp (name_of e.name) name ≡ Equal = sym c.order.ensures.order ∙ is_equal c.order.result (sym c.is_eq.ensures ∙ w.if-is_eq.true) in
-          let here : pair_at pairs k ≡ (e.id, name) = sym c.entry_at-entry.ensures ∙ ap (λ (n : Name). (e.id, n)) (name_exact (name_of e.name) name equal) in
+          let here : pair_at pairs k ≡ (e.id, name) = sym c.nth-entry.ensures ∙ ap (λ (n : Name). (e.id, n)) (name_exact (name_of e.name) name equal) in
           subst (IsLeastOf pairs name (k + 1)) (sym (w.least-is ∙ ap Some w.lower.ensures)) (next_same pairs name k e.id here c.loop-k.least c.loop-k.invariant)
       | else-is_eq w ↦
-          let other : name_cmp (pair_at pairs k).1 name ≡ Equal → ⊥ = λ same. is_other c.order.result (sym c.is_eq.ensures ∙ w.if-is_eq.false) (c.order.ensures.order ∙ ap (λ (p : Pair). name_cmp p.1 name) c.entry_at-entry.ensures ∙ same) in
+          let other : name_cmp (pair_at pairs k).1 name ≡ Equal → ⊥ = λ same. is_other c.order.result (sym c.is_eq.ensures ∙ w.if-is_eq.false) (c.order.ensures.order ∙ ap (λ (p : Pair). name_cmp p.1 name) c.nth-entry.ensures ∙ same) in
           subst (IsLeastOf pairs name (k + 1)) (sym w.least-is) (next_differs pairs name k c.loop-k.least other c.loop-k.invariant)
     ]
 

@@ -15,10 +15,10 @@ returns-then-at-entries c = none_left (map pair_of c.args.entries.now) c.require
 pub returns-in-Equal : goal.returns-in-Equal
 returns-in-Equal c =
     let name = name_of c.args.name.now in
-    let equal : name_cmp (pair_at (map pair_of c.args.entries.now) c.count_below-at.result).1 name ≡ Equal = ap (λ (p : Pair). name_cmp p.1 name) (sym c.entry_at-entry.ensures) ∙ (sym c.order.ensures.order ∙ c.in-Equal.is) in
-    least_there (map pair_of c.args.entries.now) c.requires name c.count_below-at.result c.count_below-at.ensures (omega (arith, length-map c.args.entries.now pair_of)) equal c.entry_at-entry.result.now.id (ap (λ (p : Pair). p.0) c.entry_at-entry.ensures)
+    let equal : name_cmp (pair_at (map pair_of c.args.entries.now) c.count_below-at.result).1 name ≡ Equal = ap (λ (p : Pair). name_cmp p.1 name) (sym c.nth-entry.ensures) ∙ (sym c.order.ensures.order ∙ c.in-Equal.is) in
+    least_there (map pair_of c.args.entries.now) c.requires name c.count_below-at.result c.count_below-at.ensures (omega (arith, length-map c.args.entries.now pair_of)) equal c.nth-entry.result.now.id (ap (λ (p : Pair). p.0) c.nth-entry.ensures)
 
 pub returns-in_default : goal.returns-in_default
 returns-in_default c =
     let name = name_of c.args.name.now in
-    none_there (map pair_of c.args.entries.now) c.requires name c.count_below-at.result c.count_below-at.ensures (omega (arith, length-map c.args.entries.now pair_of)) (λ e. c.in_default.not-Equal (c.order.ensures.order ∙ (ap (λ (p : Pair). name_cmp p.1 name) c.entry_at-entry.ensures ∙ e)))
+    none_there (map pair_of c.args.entries.now) c.requires name c.count_below-at.result c.count_below-at.ensures (omega (arith, length-map c.args.entries.now pair_of)) (λ e. c.in_default.not-Equal (c.order.ensures.order ∙ (ap (λ (p : Pair). name_cmp p.1 name) c.nth-entry.ensures ∙ e)))
