@@ -1,5 +1,5 @@
 -- The keys of an object, and those of the members that went in.
-use Rattle.std.proofs.Common.{◌≡◌, ◌∙◌, refl, sym, ap, ℕ, List, ◌∷◌, Bool, true, false, ◌&&◌, Ordering, Less, Equal, Greater, nat_cmp, is_eq, Bor, Vec, drop, get_or, length, ◌+◌, ◌<◌, ◌≤◌}
+use Rattle.std.proofs.Common.{◌≡◌, ◌∙◌, refl, sym, ap, ℕ, List, ◌∷◌, Bool, true, false, ◌&&◌, Ordering, Less, Equal, Greater, nat_cmp, is_eq, Bor, Option, Box, Vec, Global, drop, get_or, length, ◌+◌, ◌<◌, ◌≤◌}
 use Rattle.std.proofs.lemmas.List.{drop_more, drop_all}
 use Rattle.std.proofs.lemmas.Map.Text.{is_eq-slice_cmp}
 use Rattle.std.proofs.lemmas.Slice.Eq.{bytes_eq-Decides}
@@ -8,11 +8,11 @@ use Rattle.std.specs.List.{list_all}
 use Rattle.std.specs.Ordering.{match_ordering}
 use Rattle.json.specs.Json as json
 use Rattle.json.specs.Strict.{keys}
-use Rattle.json.specs.Value.{value_view, members_view}
-use Rattle.json.specs.declared.value.Value.{Value, Object}
-use Rattle.json.proofs.Trees.{view-Object}
 use Rattle.serde_json.specs.Data.{Data, Members, no_members, member, put}
 use Rattle.json_values.specs.Keys.{member_keys, keys_of}
+use Rattle.json_values.specs.Values.{in_box, value_view, json_members}
+use Rattle.json_values.specs.declared.value.Value.{Value, Object}
+use Rattle.json_values.proofs.Values.{object_seen}
 use Rattle.json_values.specs.View.{data_of, with_members, view}
 
 twice : (a b : Bool) → (a && b) ≡ (a && (a && b))
@@ -51,19 +51,19 @@ and_true true = refl
 and_true false = refl
 
 -- a test of all keys that went in is one of all keys in the data
-pub all_keys : {A : Type 0} (p : List ℕ → Bool) (members : Vec (Bor (List ℕ) × Value A) A) (items : List (Bor (List ℕ) × Value A)) (v : Value A)
-    → items ≡ members.items → v ≡ Object members → list_all p (keys (members_view items)) ≡ list_all p (keys_of (view v))
+pub all_keys : (p : List ℕ → Bool) (members : Option (Box (Vec (Bor (List ℕ) × Value) Global) Global)) (items : List (Bor (List ℕ) × Value)) (v : Value)
+    → items ≡ in_box members → v ≡ Object members → list_all p (keys (json_members items)) ≡ list_all p (keys_of (view v))
 all_keys p members items v same is =
-    let seen : value_view v ≡ json.object (members_view items) = ap value_view is ∙ (view-Object members ∙ ap (λ l. json.object (members_view l)) (sym same)) in
-    sym (ap (λ j. list_all p (keys_of (data_of j))) seen ∙ (all_in p (members_view items) no_members ∙ and_true _))
+    let seen : value_view v ≡ json.object (json_members items) = ap value_view is ∙ (object_seen members ∙ ap (λ l. json.object (json_members l)) (sym same)) in
+    sym (ap (λ j. list_all p (keys_of (data_of j))) seen ∙ (all_in p (json_members items) no_members ∙ and_true _))
 
-module _ {A : Type 0} (p : List ℕ → Bool) (items : List (Bor (List ℕ) × Value A)) (k : ℕ) (same : list_all p (keys (members_view (drop k items))) ≡ list_all p (keys (members_view items))) where
+module _ (p : List ℕ → Bool) (items : List (Bor (List ℕ) × Value)) (k : ℕ) (same : list_all p (keys (json_members (drop k items))) ≡ list_all p (keys (json_members items))) where
   -- the test fails at the next key
-  pub fails_here : (m : Bor (List ℕ) × Value A) → k < length items → m ≡ get_or items k m → p m.0.now ≡ false → false ≡ list_all p (keys (members_view items))
+  pub fails_here : (m : Bor (List ℕ) × Value) → k < length items → m ≡ get_or items k m → p m.0.now ≡ false → false ≡ list_all p (keys (json_members items))
   fails_here m lt at fails =
       let next = drop_more items k m lt ∙ ap (λ x. x ∷ drop (k + 1) items) (sym at) in
-      sym (ap (λ b. b && list_all p (keys (members_view (drop (k + 1) items)))) fails) ∙ (sym (ap (λ l. list_all p (keys (members_view l))) next) ∙ same)
+      sym (ap (λ b. b && list_all p (keys (json_members (drop (k + 1) items)))) fails) ∙ (sym (ap (λ l. list_all p (keys (json_members l))) next) ∙ same)
 
   -- no key is left
-  pub holds_to_end : length items ≤ k → true ≡ list_all p (keys (members_view items))
-  holds_to_end le = sym (ap (λ l. list_all p (keys (members_view l))) (drop_all k items le)) ∙ same
+  pub holds_to_end : length items ≤ k → true ≡ list_all p (keys (json_members items))
+  holds_to_end le = sym (ap (λ l. list_all p (keys (json_members l))) (drop_all k items le)) ∙ same

@@ -1,24 +1,24 @@
 -- What is in a value, and what is in its data.
-use Rattle.std.proofs.Common.{◌≡◌, ◌∙◌, refl, sym, ap, subst, ℕ, List, [], ◌∷◌, Bool, true, false, true≢false, cond, bytes_eq, Option, Some, None, option_map, Bor, Vec}
+use Rattle.std.proofs.Common.{◌≡◌, ◌∙◌, refl, sym, ap, subst, ℕ, List, [], ◌∷◌, Bool, true, false, true≢false, cond, bytes_eq, Option, Some, None, option_map, Bor, Box, Vec, Global}
 use Rattle.std.proofs.lemmas.Slice.Eq.{bytes_eq-Decides}
 use Rattle.json.specs.Find as find
 use Rattle.json.specs.Json as json
-use Rattle.json.specs.Value.{value_view, items_view as plain_items}
-use Rattle.json.specs.declared.value.Value.{Value, Array}
-use Rattle.json.proofs.Trees.{view-Array}
 use Rattle.serde_json.specs.Data.{Data, Members, no_members, put, item}
 use Rattle.serde_json.specs.Find.{get, get_member, as_array}
 use Rattle.serde_json.proofs.Views.{get_member-put, get_member-put_other}
+use Rattle.json_values.specs.Values.{in_box, value_view, json_items}
+use Rattle.json_values.specs.declared.value.Value.{Value, Array}
+use Rattle.json_values.proofs.Values.{array_seen}
 use Rattle.json_values.specs.View.{data_of, items_data, with_members, view, items_view}
 
-items_seen : {A : Type 0} → (vs : List (Value A)) → items_data (plain_items vs) ≡ items_view vs
+items_seen : (vs : List Value) → items_data (json_items vs) ≡ items_view vs
 items_seen [] = refl
 items_seen (v ∷ vs) = ap (item (view v)) (items_seen vs)
 
-pub array_seen : {A : Type 0} → (items : Vec (Value A) A) (v : Value A) → Array items ≡ v → Some (items_view items.items) ≡ as_array (view v)
-array_seen items v is = ap Some (sym (items_seen items.items)) ∙ (ap (λ j. as_array (data_of j)) (sym (view-Array items)) ∙ ap (λ w. as_array (view w)) is)
+pub elements_seen : (items : Option (Box (Vec Value Global) Global)) (v : Value) → Array items ≡ v → Some (items_view (in_box items)) ≡ as_array (view v)
+elements_seen items v is = ap Some (sym (items_seen (in_box items))) ∙ (ap (λ j. as_array (data_of j)) (sym (array_seen items)) ∙ ap (λ w. as_array (view w)) is)
 
-pub seen_by_ref : {A : Type 0} → (r : Option (Bor (Value A))) → option_map (λ v. view v.now) r ≡ option_map data_of (option_map (λ v. value_view v.now) r)
+pub seen_by_ref : (r : Option (Bor Value)) → option_map (λ v. view v.now) r ≡ option_map data_of (option_map (λ v. value_view v.now) r)
 seen_by_ref None = refl
 seen_by_ref (Some v) = refl
 

@@ -1,3 +1,4 @@
 pub mod Keys
 pub mod Ranges
 pub mod View
+pub mod Values

@@ -1,6 +1,7 @@
--- Whether all numbers in a value are in range.
-use Rattle.std.specs.Prelude.{Bool, true, ◌&&◌, is_some}
-use Rattle.json.specs.Json.{Json, null, boolean, number, string, array, object, Items, no_items, item, Members, no_members, member}
+-- Values whose numbers are all in range.
+use Rattle.std.specs.Prelude.{ℕ, Bool, true, ◌&&◌, cond, is_some, List, Option, Some, None}
+use Rattle.json.specs.Json.{Json, null, boolean, number, string, array, object, Items, no_items, item, Members, no_members, member, Parse, value}
+use Rattle.json.specs.Token.{Token}
 use Rattle.serde_json.specs.Read.{number_of}
 
 abbrev mutual
@@ -19,3 +20,12 @@ abbrev mutual
   pub members_in_range : Members → Bool
   members_in_range no_members = true
   members_in_range (member k j ms) = in_range j && members_in_range ms
+
+-- what is read, if it passes a test
+abbrev pub only : {A : Type 0} → (A → Bool) → Option (A × List Token) → Option (A × List Token)
+only test None = None
+only test (Some p) = cond (test p.0) (Some p) None
+
+-- a value with numbers in range alone, whose arrays and objects nest at most so deep
+abbrev pub ranged_value : ℕ → Parse Json
+ranged_value levels ts = only in_range (value levels ts)

@@ -1,8 +1,8 @@
 -- The data that a value stands for.
 use Rattle.std.specs.Prelude.{negsuc, List, map, Option, Some, None}
 use Rattle.json.specs.Json as json
-use Rattle.json.specs.Value.{value_view}
-use Rattle.json.specs.declared.value.Value.{Value}
+use Rattle.json_values.specs.Values.{value_view}
+use Rattle.json_values.specs.declared.value.Value.{Value}
 use Rattle.serde_json.specs.Data.{Num, negative, Data, null, boolean, number, string, array, object, Items, no_items, item, Members, no_members, put}
 use Rattle.serde_json.specs.Read.{number_of}
 use Rattle.serde_json.specs.View.{items_of}
@@ -30,8 +30,8 @@ abbrev mutual
   with_members json.no_members found = found
   with_members (json.member k j ms) found = with_members ms (put k (data_of j) found)
 
-abbrev pub view : {A : Type 0} → Value A → Data
+abbrev pub view : Value → Data
 view v = data_of (value_view v)
 
-abbrev pub items_view : {A : Type 0} → List (Value A) → Items
+abbrev pub items_view : List Value → Items
 items_view vs = items_of (map view vs)

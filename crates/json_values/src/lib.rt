@@ -4,8 +4,10 @@
 
 mod numbers;
 mod parts;
-mod ranges;
+mod reading;
 mod texts;
+mod value;
 
 pub use parts::{as_items, as_str, as_u64, get, has_only, is_number};
 pub use texts::{TextEnd, parse};
+pub use value::{Boxed, Value, unboxed};

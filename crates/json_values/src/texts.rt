@@ -3,8 +3,9 @@ ghost use Rattle.std.specs.Prelude.{◌≡◌, IfOk, IsUtf8, None, Some, Err};
 ghost use Rattle.serde_json.specs.Read.{read};
 ghost use Rattle.json_values.specs.View.{view};
 
-use crate::ranges::is_in_range;
-use json::{Error, Reader, Scratch, Value};
+use crate::reading::read_value;
+use crate::value::Value;
+use json::{Invalid, Reader, Scratch};
 use std::alloc::{AllocError, Global};
 
 /// How deep arrays and objects may nest.
@@ -17,6 +18,16 @@ pub enum TextEnd {
     NotJson,
     /// Memory was refused.
     NoMemory,
+}
+
+impl From<Invalid> for TextEnd {
+    ghost use Rattle.json_values.specs.declared.texts.TextEnd.TheVariants.{NotJson};
+
+    ghost from_gives = { λ _ e. e ≡ NotJson };
+
+    fn from(_: Invalid) -> TextEnd {
+        TextEnd::NotJson
+    }
 }
 
 impl From<AllocError> for TextEnd {
@@ -38,19 +49,11 @@ fn read_text<'a>(
     ensures none { result ≡ Err TextEnd.NotJson → read text.now ≡ None }
 {
     let mut reader = Reader::new(text, scratch)?;
-    match Value::read(alloc, &mut reader, MOST_LEVELS) {
-        Ok(value) => {
-            if reader.next().is_some() {
-                return Err(TextEnd::NotJson);
-            }
-            if !is_in_range(&value) {
-                return Err(TextEnd::NotJson);
-            }
-            Ok(value)
-        }
-        Err(Error::Invalid) => Err(TextEnd::NotJson),
-        Err(_) => Err(TextEnd::NoMemory),
+    let value = read_value(alloc, &mut reader, MOST_LEVELS)?;
+    if reader.next().is_some() {
+        return Err(TextEnd::NotJson);
     }
+    Ok(value)
 }
 
 /// The value of a JSON text, which keeps its texts in the text or, where they have escapes, in the scratch. NotJson

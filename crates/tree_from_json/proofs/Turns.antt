@@ -1,11 +1,11 @@
 -- Elements of arrays, read in turn.
-use Rattle.std.proofs.Common.{Global, ◌≡◌, ℕ, ◌+◌, ◌<◌, ◌≤◌, List, [], ◌∷◌, ◌++◌, length, get_or, drop, refl, ap, sym, subst, ◌∙◌, arith}
+use Rattle.std.proofs.Common.{◌≡◌, ℕ, ◌+◌, ◌<◌, ◌≤◌, List, [], ◌∷◌, ◌++◌, length, get_or, drop, refl, ap, sym, subst, ◌∙◌, arith}
 use Rattle.std.specs.Prelude.{Result, Ok, Err, nat_lt, true, false}
 use Rattle.std.proofs.lemmas.Bool.Decides.{nat_tests}
 use Rattle.std.proofs.lemmas.List.{drop_more, drop_all}
 use Rattle.serde_json.specs.Data.{Data, Items}
 use Rattle.json_values.specs.View.{view, items_view}
-use Rattle.json.specs.declared.value.Value.{Value}
+use Rattle.json_values.specs.declared.value.Value.{Value}
 use Rattle.carrier_model.specs.Values.{list_limit}
 use Rattle.json_model.specs.Faults.{JsonFault, under, fault_here, range}
 use Rattle.json_model.specs.Parts.{in_turn, items_at, read_array}
@@ -16,22 +16,22 @@ use Rattle.tree_from_json.specs.declared.read_ends.ReadEnd.TheVariants as ends
 use Rattle.tree_from_json.proofs.Reading.{under_ok, under_err, then_err}
 
 -- what is read of all elements, where so many were read and gave what is there
-abbrev pub InTurn : {A : Type 0} → (List A → Data → Result A JsonFault) → List A → ℕ → List (Value Global) → Type 0
+abbrev pub InTurn : {A : Type 0} → (List A → Data → Result A JsonFault) → List A → ℕ → List Value → Type 0
 InTurn read before k vs = in_turn read before (items_view (drop k vs)) ≡ in_turn read [] (items_view vs)
 
-at_next : {A : Type 0} (read : List A → Data → Result A JsonFault) (before : List A) (k : ℕ) (vs : List (Value Global)) (v : Value Global) → k < length vs → v ≡ get_or vs k v
+at_next : {A : Type 0} (read : List A → Data → Result A JsonFault) (before : List A) (k : ℕ) (vs : List Value) (v : Value) → k < length vs → v ≡ get_or vs k v
     → in_turn read before (items_view (drop k vs)) ≡ in_turn read before (items_view (v ∷ drop (k + 1) vs))
 at_next read before k vs v lt at = ap (λ l. in_turn read before (items_view l)) (drop_more vs k v lt ∙ ap (λ x. x ∷ drop (k + 1) vs) (sym at))
 
 -- the next element
-pub turn_ok : {A X : Type 0} (see : X → A) (read : List A → Data → Result A JsonFault) (before : List A) (k : ℕ) (vs : List (Value Global)) (v : Value Global) (inner : Result X ReadEnd) (x : X) (new : List A)
+pub turn_ok : {A X : Type 0} (see : X → A) (read : List A → Data → Result A JsonFault) (before : List A) (k : ℕ) (vs : List Value) (v : Value) (inner : Result X ReadEnd) (x : X) (new : List A)
     → k < length vs → v ≡ get_or vs k v → Reads see (read before (view v)) inner → ReadsBelow (length before) inner (Ok x) → new ≡ before ++ see x ∷ [] → InTurn read before k vs → InTurn read new (k + 1) vs
 turn_ok see read before k vs v inner x new lt at h below n inv =
     let one = under_ok see (read before (view v)) (length before) inner x h below in
     ap (λ l. in_turn read l (items_view (drop (k + 1) vs))) n ∙ (sym (at_next read before k vs v lt at ∙ rw one refl) ∙ inv)
 
 -- an element that is not read
-pub turn_err : {A X Y : Type 0} (see : X → A) (other : Y → List A) (read : List A → Data → Result A JsonFault) (before : List A) (k : ℕ) (vs : List (Value Global)) (v : Value Global) (inner : Result X ReadEnd) (e : ReadEnd)
+pub turn_err : {A X Y : Type 0} (see : X → A) (other : Y → List A) (read : List A → Data → Result A JsonFault) (before : List A) (k : ℕ) (vs : List Value) (v : Value) (inner : Result X ReadEnd) (e : ReadEnd)
     → k < length vs → v ≡ get_or vs k v → Reads see (read before (view v)) inner → ReadsBelow (length before) inner (Err e) → InTurn read before k vs → Reads other (in_turn read [] (items_view vs)) (Err e)
 turn_err see other read before k vs v inner e lt at h below inv =
     let one = under_err see (read before (view v)) (length before) inner e h below in
@@ -39,7 +39,7 @@ turn_err see other read before k vs v inner e lt at h below inv =
     (then_err see other (under (length before) (read before (view v))) (λ x. in_turn read (before ++ x ∷ []) (items_view (drop (k + 1) vs))) e one)
 
 -- no element is left
-pub turn_end : {A : Type 0} (read : List A → Data → Result A JsonFault) (before : List A) (k : ℕ) (vs : List (Value Global)) → length vs ≤ k → InTurn read before k vs → in_turn read [] (items_view vs) ≡ Ok before
+pub turn_end : {A : Type 0} (read : List A → Data → Result A JsonFault) (before : List A) (k : ℕ) (vs : List Value) → length vs ≤ k → InTurn read before k vs → in_turn read [] (items_view vs) ≡ Ok before
 turn_end read before k vs all inv = sym inv ∙ ap (λ l. in_turn read before (items_view l)) (drop_all k vs all)
 
 -- ---- lists of at most so many elements

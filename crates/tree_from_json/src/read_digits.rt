@@ -6,7 +6,7 @@ ghost use Rattle.tree_from_json.specs.Ends.{Reads};
 
 use crate::read_ends::{JsonWhy, ReadEnd, fault_here};
 use crate::read_parts::string;
-use json::Value;
+use json_values::Value;
 use prop_names::{FIRST_NAMED, Guid, bytes_of_digits, guid_of_digits, number_of_four};
 use std::alloc::Global;
 

@@ -13,7 +13,7 @@ use crate::read_ends::{JsonWhy, ReadEnd, fault_here, under};
 use crate::read_parts::{has_members, items, member};
 use crate::read_texts::read_name;
 use carrier_io::Units;
-use json::Value;
+use json_values::{Value, unboxed};
 use std::alloc::Global;
 
 /// The greatest number of units of a name. [MS-CFB 2.6.1]
@@ -23,7 +23,7 @@ const GREATEST_NAME: usize = 31;
 fn read_names(alloc: Global, value: &Value) -> Result<Vec<Units>, ReadEnd>
     ensures { Reads (λ v. v.items) (read_each (name_meant plain.MOST_NAME) (view value.now)) result }
 {
-    let values = items(alloc, value)?.as_slice();
+    let values = unboxed(items(alloc, value)?);
     let mut names = Vec::with_capacity(alloc, values.len())?;
     for k in 0..values.len() {
         let name = under(read_name(alloc, &values[k], GREATEST_NAME), k as u64)?;
@@ -90,7 +90,7 @@ fn read_next(alloc: Global, value: &Value, before: &[Entry]) -> Result<Entry, Re
 pub(crate) fn read_entries(alloc: Global, value: &Value) -> Result<Vec<Entry>, ReadEnd>
     ensures { Reads (λ v. map entry_of v.items) (plain.read_entries (view value.now)) result }
 {
-    let values = items(alloc, value)?.as_slice();
+    let values = unboxed(items(alloc, value)?);
     let mut entries = Vec::with_capacity(alloc, values.len())?;
     for k in 0..values.len() {
         let entry = under(read_next(alloc, &values[k], &entries), k as u64)?;

@@ -10,8 +10,7 @@ use crate::read_digits::{read_guid, read_id};
 use crate::read_ends::{JsonWhy, ReadEnd, fault_here, under};
 use crate::read_parts::{has_members, member, number_up_to};
 use crate::read_texts::read_name;
-use json::Value;
-use json_values::as_str;
+use json_values::{Value, as_str};
 use prop_names::{Key, Name};
 use std::alloc::Global;
 

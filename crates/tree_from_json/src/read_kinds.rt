@@ -8,7 +8,7 @@ ghost use Rattle.tree_from_json.specs.KindRows.{kind_row};
 
 use crate::read_ends::{JsonWhy, ReadEnd, fault_here};
 use crate::read_parts::string;
-use json::Value;
+use json_values::Value;
 use prop_values::Kind;
 use std::alloc::Global;
 

@@ -13,7 +13,7 @@ use crate::read_ends::{JsonWhy, ReadEnd, fault_here, under};
 use crate::read_parts::{items, number_up_to};
 use crate::read_texts::read_text;
 use carrier_io::Numbers;
-use json::Value;
+use json_values::{Value, unboxed};
 use prop_values::{Guids, Kind, Parts};
 use std::alloc::Global;
 
@@ -61,7 +61,7 @@ pub(crate) fn read_bytes(alloc: Global, kind: Kind, value: &Value) -> Result<Vec
 pub(crate) fn read_numbers(alloc: Global, value: &Value, most: u64) -> Result<Numbers, ReadEnd>
     ensures { Reads (λ list. list) (read_list (number_below (most + 1)) (view value.now)) result }
 {
-    let values = items(alloc, value)?.as_slice();
+    let values = unboxed(items(alloc, value)?);
     let mut list = Numbers::with_capacity(alloc, values.len())?;
     for item in values {
         let step = list.len() as u64;
@@ -77,7 +77,7 @@ pub(crate) fn read_numbers(alloc: Global, value: &Value, most: u64) -> Result<Nu
 pub(crate) fn read_guids(alloc: Global, value: &Value) -> Result<Guids, ReadEnd>
     ensures { Reads (λ list. list) (read_list plain_guid (view value.now)) result }
 {
-    let values = items(alloc, value)?.as_slice();
+    let values = unboxed(items(alloc, value)?);
     let mut list = Guids::with_capacity(alloc, values.len())?;
     for item in values {
         let step = list.len() as u64;
@@ -97,7 +97,7 @@ pub(crate) fn read_parts(
 ) -> Result<Parts<Vec<u8>>, ReadEnd>
     ensures { Reads (λ list. list) (read_list (plain_bytes (kind_number kind)) (view value.now)) result }
 {
-    let values = items(alloc, value)?.as_slice();
+    let values = unboxed(items(alloc, value)?);
     let mut list = Parts::with_capacity(alloc, values.len())?;
     for item in values {
         let step = list.len() as u64;

@@ -10,14 +10,14 @@ use crate::read_ends::{JsonWhy, ReadEnd, fault_here, under};
 use crate::read_parts::{has_members, items, member};
 use crate::read_props::read_props;
 use crate::read_stores::read_store;
-use json::Value;
+use json_values::{Value, unboxed};
 use msg_tree::{Attachment, Attachments, Body, Message, Recipients};
 use std::alloc::Global;
 
 fn read_recipients(alloc: Global, value: &Value) -> Result<Recipients<Vec<u8>>, ReadEnd>
     ensures { Reads (λ r. r) (read_each props_meant (view value.now)) result }
 {
-    let values = items(alloc, value)?.as_slice();
+    let values = unboxed(items(alloc, value)?);
     let mut all = Recipients::with_capacity(alloc, values.len())?;
     for k in 0..values.len() {
         let props = under(read_props(alloc, &values[k]), k as u64)?;
@@ -89,7 +89,7 @@ fn read_attachments(
 ) -> Result<Attachments<Vec<u8>>, ReadEnd>
     ensures { Reads (list_of (λ b. b.items)) (read_each (plain.read_attachment (plain.read_within levels)) (view value.now)) result }
 {
-    let values = items(alloc, value)?.as_slice();
+    let values = unboxed(items(alloc, value)?);
     let mut all = Attachments::with_capacity(alloc, values.len())?;
     for k in 0..values.len() {
         let attachment = under(read_attachment(alloc, &values[k], levels), k as u64)?;

@@ -4,12 +4,12 @@ ghost use Rattle.std.specs.List.{list_all};
 ghost use Rattle.serde_json.specs.Find.{get as find};
 ghost use Rattle.json_model.specs.Parts.{has_members as has_plain, member_at, items_at, string_at, number_below};
 ghost use Rattle.json_values.specs.Keys.{are_apart};
+ghost use Rattle.json_values.specs.Values.{in_box};
 ghost use Rattle.json_values.specs.View.{view, items_view};
 ghost use Rattle.tree_from_json.specs.Ends.{Reads};
 
 use crate::read_ends::{JsonWhy, ReadEnd, fault_here};
-use json::Value;
-use json_values::{as_items, as_str, as_u64, get, has_only, is_number};
+use json_values::{Boxed, Value, as_items, as_str, as_u64, get, has_only, is_number};
 use std::alloc::Global;
 
 /// Whether an object has all members of these names.
@@ -50,8 +50,8 @@ pub(crate) fn member<'v, 'a>(
 pub(crate) fn items<'v, 'a>(
     alloc: Global,
     value: &'v Value<'a>,
-) -> Result<&'v Vec<Value<'a>>, ReadEnd>
-    ensures { Reads (λ items. items_view items.now.items) (items_at (view value.now)) result }
+) -> Result<&'v Boxed<Value<'a>>, ReadEnd>
+    ensures { Reads (λ items. items_view (in_box items.now)) (items_at (view value.now)) result }
 {
     match as_items(value) {
         Some(items) => Ok(items),

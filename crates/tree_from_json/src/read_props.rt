@@ -12,7 +12,7 @@ use crate::read_kinds::read_kind;
 use crate::read_parts::{has_members, items, member};
 use crate::read_values::read_value;
 use carrier_io::NoMemory;
-use json::Value;
+use json_values::{Value, unboxed};
 use prop_values::{InsertEnd, Prop, Props};
 use std::alloc::Global;
 
@@ -73,7 +73,7 @@ fn push_prop(props: &mut Props<Vec<u8>>, prop: Prop<Vec<u8>>) -> Result<(), NoMe
 pub(crate) fn read_props(alloc: Global, value: &Value) -> Result<Props<Vec<u8>>, ReadEnd>
     ensures { Reads (λ props. props) (plain_props (view value.now)) result }
 {
-    let values = items(alloc, value)?.as_slice();
+    let values = unboxed(items(alloc, value)?);
     let mut props = Props::with_capacity(alloc, values.len())?;
     for item in values {
         let step = props.len() as u64;

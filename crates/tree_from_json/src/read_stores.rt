@@ -16,7 +16,7 @@ use crate::read_entries::read_entries;
 use crate::read_parts::{has_members, member};
 use carrier_io::{NoMemory, Units};
 use cfb_names::is_property_stream;
-use json::Value;
+use json_values::Value;
 use msg_tree::{Member, Members, Store};
 use std::alloc::Global;
 use std::collections::VecDeque;

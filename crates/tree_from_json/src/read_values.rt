@@ -12,7 +12,7 @@ use crate::read_digits::read_guid;
 use crate::read_ends::ReadEnd;
 use crate::read_lists::{read_bytes, read_guids, read_numbers, read_parts};
 use crate::read_parts::number_up_to;
-use json::Value as Json;
+use json_values::Value as Json;
 use prop_values::{Kind, Shape, Value};
 use std::alloc::Global;
 

@@ -1,5 +1,5 @@
 use json::Scratch;
-use json_values::{TextEnd, as_items, as_str, as_u64, get, has_only, is_number, parse};
+use json_values::{TextEnd, as_items, as_str, as_u64, get, has_only, is_number, parse, unboxed};
 use std::test::*;
 
 #[test]
@@ -11,7 +11,7 @@ fn parts_of_a_value(rt: HostRuntime) -> Result<(), Fail> {
     assert!(rt; !has_only(&value, &["a"]));
     let last = get(&value, "a").ok_or("a member")?;
     assert_eq!(rt; as_u64(last), Some(u64::MAX));
-    let items = as_items(get(&value, "b").ok_or("a member")?).ok_or("items")?;
+    let items = unboxed(as_items(get(&value, "b").ok_or("a member")?).ok_or("items")?);
     assert_eq!(rt; items.len(), 3);
     assert!(rt; is_number(&items[1]) && as_u64(&items[1]).is_none());
     assert_eq!(rt; as_str(&items[2]), Some("xA"));

@@ -9,7 +9,7 @@ use Rattle.tree_from_json.proofs.read_lists.read_numbers.Goals as goal
 pub returns-in_err-under : goal.returns-in_err-under
 returns-in_err-under c =
     let p = err_from_is_err_and c.from_residual-in_err-under.result c.from_residual-in_err-under.ensures.1 in
-    list_err (λ list. list) (number_below (c.args.most + 1)) _ _ c.in_err-under.field-0.0 _ (c.in_ok-items.ensures ∙ ap (λ l. Ok (items_view l)) (sym c.as_slice-values.ensures.value)) (p.1 ∙ ap Err p.2)
+    list_err (λ list. list) (number_below (c.args.most + 1)) _ _ c.in_err-under.field-0.0 _ (c.in_ok-items.ensures ∙ ap (λ l. Ok (items_view l)) (sym c.unboxed-values.ensures)) (p.1 ∙ ap Err p.2)
     (turn_err (λ n. n) (λ list. list) (λ before. number_below (c.args.most + 1)) c.loop-item.list c.loop-item.item-index _ c.item-item.result c.number_up_to.result c.in_err-under.field-0.0 c.loop-item-test.true c.item-item.is c.number_up_to.ensures (rw c.len-step.ensures at c.in_err-under.ensures) c.loop-item.invariant)
 
 pub loop-item-preserved : goal.loop-item-preserved
@@ -18,8 +18,8 @@ loop-item-preserved c =
 
 pub returns-then-len-ge-LIST_LIMIT : goal.returns-then-len-ge-LIST_LIMIT
 returns-then-len-ge-LIST_LIMIT c =
-    rw c.fault_here.ensures (list_long (number_below (c.args.most + 1)) _ _ c.loop-item.list (c.in_ok-items.ensures ∙ ap (λ l. Ok (items_view l)) (sym c.as_slice-values.ensures.value)) (turn_end (λ before. number_below (c.args.most + 1)) c.loop-item.list c.loop-item.item-index _ (omega (arith, c.loop-item-test.false)) c.loop-item.invariant) (omega (arith, c.if-len-ge-LIST_LIMIT.true, c.len.ensures)))
+    rw c.fault_here.ensures (list_long (number_below (c.args.most + 1)) _ _ c.loop-item.list (c.in_ok-items.ensures ∙ ap (λ l. Ok (items_view l)) (sym c.unboxed-values.ensures)) (turn_end (λ before. number_below (c.args.most + 1)) c.loop-item.list c.loop-item.item-index _ (omega (arith, c.loop-item-test.false)) c.loop-item.invariant) (omega (arith, c.if-len-ge-LIST_LIMIT.true, c.len.ensures)))
 
 pub returns : goal.returns
 returns c =
-    list_ok (number_below (c.args.most + 1)) _ _ c.loop-item.list (c.in_ok-items.ensures ∙ ap (λ l. Ok (items_view l)) (sym c.as_slice-values.ensures.value)) (turn_end (λ before. number_below (c.args.most + 1)) c.loop-item.list c.loop-item.item-index _ (omega (arith, c.loop-item-test.false)) c.loop-item.invariant) (omega (arith, c.if-len-ge-LIST_LIMIT.false, c.len.ensures))
+    list_ok (number_below (c.args.most + 1)) _ _ c.loop-item.list (c.in_ok-items.ensures ∙ ap (λ l. Ok (items_view l)) (sym c.unboxed-values.ensures)) (turn_end (λ before. number_below (c.args.most + 1)) c.loop-item.list c.loop-item.item-index _ (omega (arith, c.loop-item-test.false)) c.loop-item.invariant) (omega (arith, c.if-len-ge-LIST_LIMIT.false, c.len.ensures))

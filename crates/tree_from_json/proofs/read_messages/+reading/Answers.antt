@@ -27,7 +27,7 @@ read_attachments-loop-k-preserved t c =
     let below = subst (λ k. ReadsBelow k c.read_attachment.result (Ok c.in_ok-attachment.attachment)) (sym n) c.in_ok-attachment.ensures in
     record {
       count = omega (arith, n, added, more);
-      turns = turn_ok (attached_of items_of) (λ before. read) all c.loop-k.k c.as_slice-values.result.now c.index-values-k.result c.read_attachment.result c.in_ok-attachment.attachment _ (omega (arith, c.loop-k-test.true)) c.index-values-k.is c.read_attachment.ensures below c.in_ok-push.ensures.ok c.loop-k.invariant.turns;
+      turns = turn_ok (attached_of items_of) (λ before. read) all c.loop-k.k c.unboxed-values.result.now c.index-values-k.result c.read_attachment.result c.in_ok-attachment.attachment _ (omega (arith, c.loop-k-test.true)) c.index-values-k.is c.read_attachment.ensures below c.in_ok-push.ensures.ok c.loop-k.invariant.turns;
     }
 
 pub read_attachments-returns-in_err-attachment : goal.read_attachments-returns-in_err-attachment
@@ -36,9 +36,9 @@ read_attachments-returns-in_err-attachment t c =
     let read = read_attachment (read_within c.args.levels) in
     let e = c.in_err-attachment.field-0.0 in
     let below = subst (λ k. ReadsBelow k c.read_attachment.result (Err e)) (sym c.loop-k.invariant.count) c.in_err-attachment.ensures in
-    let found = c.in_ok-items.ensures ∙ ap (λ l. Ok (items_view l)) (sym c.as_slice-values.ensures.value) in
+    let found = (c.in_ok-items.ensures ∙ ap (λ l. Ok (items_view l)) (sym c.unboxed-values.ensures)) in
     array_err (list_of items_of) (λ before. read) (view c.args.value.now) _ e _ found (p.1 ∙ ap Err p.2)
-    (turn_err (attached_of items_of) (list_of items_of) (λ before. read) (list_of items_of c.loop-k.all) c.loop-k.k c.as_slice-values.result.now c.index-values-k.result c.read_attachment.result e (omega (arith, c.loop-k-test.true)) c.index-values-k.is c.read_attachment.ensures below c.loop-k.invariant.turns)
+    (turn_err (attached_of items_of) (list_of items_of) (λ before. read) (list_of items_of c.loop-k.all) c.loop-k.k c.unboxed-values.result.now c.index-values-k.result c.read_attachment.result e (omega (arith, c.loop-k-test.true)) c.index-values-k.is c.read_attachment.ensures below c.loop-k.invariant.turns)
 
 pub read_message-returns-in_err-attachments-2 : goal.read_message-returns-in_err-attachments-2
 read_message-returns-in_err-attachments-2 t c =

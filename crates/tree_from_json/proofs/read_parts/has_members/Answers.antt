@@ -1,5 +1,5 @@
 use Rattle.std.proofs.Common.{◌∙◌, sym, map}
-use Rattle.json.specs.Value.{value_view}
+use Rattle.json_values.specs.Values.{value_view}
 use Rattle.tree_from_json.proofs.Members.{only_these, another_key}
 use Rattle.tree_from_json.proofs.read_parts.has_members.Goals as goal
 

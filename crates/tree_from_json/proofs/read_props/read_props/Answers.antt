@@ -9,7 +9,7 @@ use Rattle.tree_from_json.proofs.read_props.read_props.Goals as goal
 pub returns-in_err-prop : goal.returns-in_err-prop
 returns-in_err-prop c =
     let p = err_from_is_err_and c.from_residual-in_err-prop.result c.from_residual-in_err-prop.ensures.1 in
-    array_err (λ props. props) read_next_prop _ _ c.in_err-prop.field-0.0 _ (c.in_ok-items.ensures ∙ ap (λ l. Ok (items_view l)) (sym c.as_slice-values.ensures.value)) (p.1 ∙ ap Err p.2)
+    array_err (λ props. props) read_next_prop _ _ c.in_err-prop.field-0.0 _ (c.in_ok-items.ensures ∙ ap (λ l. Ok (items_view l)) (sym c.unboxed-values.ensures)) (p.1 ∙ ap Err p.2)
     (turn_err (λ prop. prop) (λ props. props) read_next_prop c.loop-item.props c.loop-item.item-index _ c.item-item.result c.read_next_prop.result c.in_err-prop.field-0.0 c.loop-item-test.true c.item-item.is c.read_next_prop.ensures.read (rw c.len-step.ensures at c.in_err-prop.ensures) c.loop-item.invariant.turn)
 
 pub loop-item-preserved : goal.loop-item-preserved
@@ -19,4 +19,4 @@ loop-item-preserved c = record {
 }
 
 pub returns : goal.returns
-returns c = array_ok read_next_prop _ _ c.loop-item.props (c.in_ok-items.ensures ∙ ap (λ l. Ok (items_view l)) (sym c.as_slice-values.ensures.value)) (turn_end read_next_prop c.loop-item.props c.loop-item.item-index _ (omega (arith, c.loop-item-test.false)) c.loop-item.invariant.turn)
+returns c = array_ok read_next_prop _ _ c.loop-item.props (c.in_ok-items.ensures ∙ ap (λ l. Ok (items_view l)) (sym c.unboxed-values.ensures)) (turn_end read_next_prop c.loop-item.props c.loop-item.item-index _ (omega (arith, c.loop-item-test.false)) c.loop-item.invariant.turn)
