@@ -9,3 +9,9 @@ pub trait Holds<B: Blob>: Blob {
     fn holding(blob: B) -> Self
         ensures { Self.bytes result ≡ B.bytes blob };
 }
+
+impl Holds<Vec<u8>> for Vec<u8> {
+    fn holding(blob: Vec<u8>) -> Vec<u8> {
+        blob
+    }
+}
