@@ -3,19 +3,12 @@ ghost use Rattle.std.specs.Prelude.{◌≡◌, IfOk, map};
 ghost use Rattle.msg_tree.specs.StoreMeaning.{store_of, entry_of, member_of};
 
 use crate::stores::{Entry, Member, Store};
-use carrier_io::{Blob, NoMemory};
+use carrier_io::{Blob, Holds, NoMemory};
 use std::alloc::Global;
-
-/// A blob that another may become, where there is memory. The bytes stay where they are.
-pub trait Keeps<B: Blob>: Blob {
-    /// The blob of another's bytes. NoMemory says that memory ran out.
-    fn keeping(alloc: Global, blob: B) -> Result<Self, NoMemory>
-        ensures { IfOk result (λ r. Self.bytes r ≡ B.bytes blob) };
-}
 
 /// The same store over blobs that its own become. NoMemory says that memory ran out.
 #[cycle(held_stores)]
-pub fn held_store<B: Blob, C: Keeps<B>>(store: Store<B>) -> Result<Store<C>, NoMemory>
+pub fn held_store<B: Blob, C: Holds<B>>(store: Store<B>) -> Result<Store<C>, NoMemory>
     ensures { IfOk result (λ r. store_of C.bytes r ≡ store_of B.bytes store) }
 {
     let Store { class, entries } = store;
@@ -23,7 +16,7 @@ pub fn held_store<B: Blob, C: Keeps<B>>(store: Store<B>) -> Result<Store<C>, NoM
 }
 
 #[cycle(held_stores)]
-fn held_entries<B: Blob, C: Keeps<B>>(entries: Vec<Entry<B>>) -> Result<Vec<Entry<C>>, NoMemory>
+fn held_entries<B: Blob, C: Holds<B>>(entries: Vec<Entry<B>>) -> Result<Vec<Entry<C>>, NoMemory>
     ensures { IfOk result (λ r. map (entry_of C.bytes) r.items ≡ map (entry_of B.bytes) entries.items) }
 {
     let alloc = *entries.allocator();
@@ -37,14 +30,14 @@ fn held_entries<B: Blob, C: Keeps<B>>(entries: Vec<Entry<B>>) -> Result<Vec<Entr
 }
 
 #[cycle(held_stores)]
-fn held_member<B: Blob, C: Keeps<B>>(
+fn held_member<B: Blob, C: Holds<B>>(
     alloc: Global,
     member: Member<B>,
 ) -> Result<Member<C>, NoMemory>
     ensures { IfOk result (λ r. member_of C.bytes r ≡ member_of B.bytes member) }
 {
     match member {
-        Member::Stream(blob) => Ok(Member::Stream(C::keeping(alloc, blob)?)),
+        Member::Stream(blob) => Ok(Member::Stream(C::holding(alloc, blob)?)),
         Member::Storage(store) => Ok(Member::Storage(held_store(store)?)),
     }
 }

@@ -1,17 +1,18 @@
 //! What the values of a message that was read are held in.
 use carrier_io::{Blob, Holds, NoMemory};
 use cfb_sectors::StreamView;
-use msg_tree::Keeps;
 use std::alloc::Global;
 
-/// Bytes of a TNEF stream that was read: of the stream itself, or of a stream of a compound file that lies in it. They
-/// stay in the input.
+/// Bytes of a TNEF stream that was read, of the stream itself or of a stream of a compound file that lies in it, which stay
+/// in the input; or bytes that were put in their place.
 #[derive(Drop)]
 pub enum Held<'a> {
     /// Bytes of the stream.
     Slice(&'a [u8]),
     /// Bytes of a compound file's stream.
     View(Box<StreamView<'a>>),
+    /// Bytes of its own.
+    Owned(Box<Vec<u8>>),
 }
 
 impl<'a> Blob for Held<'a> {
@@ -29,6 +30,7 @@ impl<'a> Blob for Held<'a> {
         match self {
             Held::Slice(bytes) => bytes.len(),
             Held::View(view) => view.len(),
+            Held::Owned(bytes) => bytes.len(),
         }
     }
 
@@ -36,6 +38,7 @@ impl<'a> Blob for Held<'a> {
         match self {
             Held::Slice(_) => 1,
             Held::View(view) => view.pieces(),
+            Held::Owned(_) => 1,
         }
     }
 
@@ -43,18 +46,25 @@ impl<'a> Blob for Held<'a> {
         match self {
             Held::Slice(bytes) => bytes,
             Held::View(view) => view.slice(k),
+            Held::Owned(bytes) => bytes.as_slice(),
         }
     }
 }
 
 impl<'a> Holds<&'a [u8]> for Held<'a> {
-    fn holding(bytes: &'a [u8]) -> Held<'a> {
-        Held::Slice(bytes)
+    fn holding(_: Global, bytes: &'a [u8]) -> Result<Held<'a>, NoMemory> {
+        Ok(Held::Slice(bytes))
     }
 }
 
-impl<'a> Keeps<StreamView<'a>> for Held<'a> {
-    fn keeping(alloc: Global, view: StreamView<'a>) -> Result<Held<'a>, NoMemory> {
+impl<'a> Holds<StreamView<'a>> for Held<'a> {
+    fn holding(alloc: Global, view: StreamView<'a>) -> Result<Held<'a>, NoMemory> {
         Ok(Held::View(Box::new(alloc, view)?))
+    }
+}
+
+impl<'a> Holds<Vec<u8>> for Held<'a> {
+    fn holding(alloc: Global, bytes: Vec<u8>) -> Result<Held<'a>, NoMemory> {
+        Ok(Held::Owned(Box::new(alloc, bytes)?))
     }
 }

@@ -60,7 +60,8 @@ impl<'a> Section<'a> {
     {
         self.seen.push(attribute.id)?;
         if let Some(prop) = legacy_prop(attribute) {
-            self.derived.push(prop.into_held()?)?;
+            let alloc = *self.derived.allocator();
+            self.derived.push(prop.into_held(alloc)?)?;
         }
         Ok(())
     }

@@ -52,7 +52,13 @@ impl<'a, C: Holds<&'a [u8]>> Draft<'a, C> {
     }
 
     /// Adds the item whose tag is at the offset; its bytes become blobs here. A second Object is a fault there.
-    fn add(&mut self, item: Item<'a>, offset: u64, passed: &mut PassedList) -> Result<(), Stop>
+    fn add(
+        &mut self,
+        alloc: Global,
+        item: Item<'a>,
+        offset: u64,
+        passed: &mut PassedList,
+    ) -> Result<(), Stop>
         ensures ok { OnOk result (IsWith (item_of item.entry) offset self.old self.new) }
         ensures passed { OnOk result (passed.new ≡ passed.old ++ filter_map lists.passed_in (item_of item.entry ∷ [])) }
         ensures fault { IfErr result (OnFault (λ g. (g ≡ (DUPLICATE_LIST_PROPERTY, offset)) × IsSecondObject (item_of item.entry) self.old)) }
@@ -61,7 +67,7 @@ impl<'a, C: Holds<&'a [u8]>> Draft<'a, C> {
     {
         match item {
             Item::Kept(prop) => {
-                self.arrivals.push(prop.into_held()?, offset)?;
+                self.arrivals.push(prop.into_held(alloc)?, offset)?;
             }
             Item::Passed { tag, offset } => {
                 passed.push(Passed {
@@ -101,7 +107,7 @@ fn scan<'a, C: Holds<&'a [u8]>>(
     draft.arrivals.make_room(most.min(count as usize));
     for _k in 0..count {
         let (item, after) = any_item(alloc, rest, in_attachment)?;
-        draft.add(item, rest.place, passed)?;
+        draft.add(alloc, item, rest.place, passed)?;
         rest = after;
     }
     Ok(rest)

@@ -1,6 +1,7 @@
-use carrier_io::{Blob, Fault, Holds, MemorySink, PassedList, Reason, Stop};
+use carrier_io::{Blob, Fault, Holds, MemorySink, NoMemory, PassedList, Reason, Stop};
 use prop_names::{Key, Name, NameSet};
 use prop_values::{Kind, Part, Prop, Props, Value};
+use std::alloc::Global;
 use std::test::*;
 use tnef_props::{
     ReadList, append_range, list_size, object_place, range_sum, read_list, write_range,
@@ -49,8 +50,8 @@ impl<'a> Blob for Kept<'a> {
 }
 
 impl<'a> Holds<&'a [u8]> for Kept<'a> {
-    fn holding(bytes: &'a [u8]) -> Kept<'a> {
-        Kept { bytes }
+    fn holding(_: Global, bytes: &'a [u8]) -> Result<Kept<'a>, NoMemory> {
+        Ok(Kept { bytes })
     }
 }
 

@@ -61,7 +61,7 @@ fn bytes_of<'a>(props: &Props<Held<'a>>, id: u16, kind: Kind) -> Option<&'a [u8]
     match &props.get(k).value {
         Value::Bytes { bytes, .. } => match bytes {
             Held::Slice(slice) => Some(*slice),
-            Held::View(_) => None,
+            Held::View(_) | Held::Owned(_) => None,
         },
         _ => None,
     }
