@@ -1,15 +1,14 @@
 -- The members that entries in turn are, one after another.
 use Rattle.std.proofs.Common.{◌≡◌, ◌∙◌, refl, sym, ap, ℕ, zero, suc, ◌+◌, ◌-◌, ◌≤◌, ◌<◌, Bool, true, false, cond, List, [], ◌∷◌, ◌++◌, length, map, append_assoc, arith}
-use Rattle.std.specs.Prelude.{slice_get, Some}
 use Rattle.std.proofs.lemmas.Bool.Decides.{nat_tests}
 use Rattle.carrier_model.specs.FileTrees as trees
-use Rattle.carrier_model.specs.FileTrees.{FileTree, Named, store_at, files_listed, in_order_below, sorted, with_stream, with_storage}
+use Rattle.carrier_model.specs.FileTrees.{FileTree, Named, bytes_at, store_at, files_listed, in_order_below, sorted, with_stream, with_storage}
 use Rattle.json_model.specs.StoreForms.{Entry, storage_entry, stream_entry, path_of, last_name, is_below, front_below, behind_below, files_within}
 use Rattle.msg_tree.specs.Gathering.{in_order}
 use Rattle.msg_tree.specs.StoreMeaning.{store_of, member_of as kept_of, member_step, entry_step, store_step}
 use Rattle.msg_tree.specs.declared.stores.Store.{Store}
 use Rattle.msg_tree.specs.declared.stores.Member.{fold-roll-Member}
-use Rattle.msg_tree.specs.declared.stores.Member.TheVariants.{Storage, rolls-Storage}
+use Rattle.msg_tree.specs.declared.stores.Member.TheVariants.{Storage, Stream, rolls-Storage, rolls-Stream}
 use Rattle.tree_from_json.specs.Entries.{tree_at, members_at, member_of, behind}
 
 -- ---- what is at the front is not longer than the whole
@@ -129,22 +128,16 @@ in_order_is trees.no_file = refl
 in_order_is (trees.stream name x others) = ap (with_stream name x) (in_order_is others)
 in_order_is (trees.storage name class inside others) = ap (with_storage name class (sorted inside)) (in_order_is others)
 
--- ---- names
-
-name_at : (path : List (List ℕ)) (k : ℕ) (name : List ℕ) → k + 1 ≡ length path → slice_get path k ≡ Some name → last_name path ≡ name
-name_at [] k name n at = absurd (omega (arith, n))
-name_at (x ∷ []) zero name n at = cc
-name_at (x ∷ []) (suc k) name n at = absurd (omega (arith, n))
-name_at (x ∷ y ∷ path) zero name n at = absurd (omega (arith, n))
-name_at (x ∷ y ∷ path) (suc k) name n at = name_at (y ∷ path) k name (omega (arith, n)) at
-
-pub last_name_is : (path : List (List ℕ)) (name : List ℕ) → slice_get path (length path - 1) ≡ Some name → last_name path ≡ name
-last_name_is [] name at = cc
-last_name_is (x ∷ path) name at = name_at (x ∷ path) (suc (length path) - 1) name (omega arith) at
-
--- ---- a storage with what was taken for it
+-- ---- a stream, and a storage with what was taken for it
 
 module _ {B : Type 0} (bytes_of : B → List ℕ) where
+  stream_made : (blob : B) → kept_of bytes_of (Stream blob) ≡ bytes_at (bytes_of blob)
+  stream_made blob = ap (kept_of bytes_of) (sym (rolls-Stream blob)) ∙ fold-roll-Member B trees.Member Named trees.Store (member_step bytes_of) (entry_step bytes_of) (store_step bytes_of) _
+
+  pub stream_named : (level : ℕ) (path : List (List ℕ)) (name : List ℕ) (more : List Entry) (blob : B)
+      → name ≡ last_name path → (name, kept_of bytes_of (Stream blob)) ≡ member_of level (stream_entry path (bytes_of blob)) more
+  stream_named level path name more blob n = λ i. (n i, stream_made blob i)
+
   storage_made : (inner : Store B) → kept_of bytes_of (Storage inner) ≡ store_at (store_of bytes_of inner)
   storage_made inner = ap (kept_of bytes_of) (sym (rolls-Storage inner)) ∙ fold-roll-Member B trees.Member Named trees.Store (member_step bytes_of) (entry_step bytes_of) (store_step bytes_of) _
 

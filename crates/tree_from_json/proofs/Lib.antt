@@ -7,6 +7,7 @@ pub mod Paths
 pub mod Props
 pub mod Reading
 pub mod Shaped
+pub mod Shortened
 pub mod SomeNames
 pub mod Turns
 pub mod WholeMessages

@@ -38,3 +38,8 @@ pub mapped_err : {A B X Y : Type 0} (view : X → A) (other : Y → B) (f : A �
     → Reads view model (Err e) → Reads other (mapped f model) (Err e)
 mapped_err view other f model (ends.Fault g) h = rw h refl
 mapped_err view other f model ends.NoMemory h = tt
+
+pub under_mapped : {A B : Type 0} (f : A → B) (step : ℕ) (model : Result A JsonFault) (y : B)
+    → plain.under step (mapped f model) ≡ Ok y → (x : A) × (plain.under step model ≡ Ok x) × (f x ≡ y)
+under_mapped f step (Ok x) y h = (x, refl, cc)
+under_mapped f step (Err g) y h = absurd cc

@@ -1,5 +1,5 @@
 -- Stores as they are read: each entry has a name, so that all of them stand in the store.
-use Rattle.std.proofs.Common.{◌≡◌, ◌∙◌, refl, sym, ap, subst, ℕ, ◌<◌, Bool, true, List, [], ◌∷◌, ◌++◌, length, cond, false, arith}
+use Rattle.std.proofs.Common.{◌≡◌, ◌∙◌, refl, sym, ap, subst, ℕ, ◌<◌, Bool, true, List, [], ◌∷◌, ◌++◌, length, map, cond, false, arith}
 use Rattle.std.specs.Prelude.{codes, nat_lt, Ok, Err}
 use Rattle.std.specs.List.{AllByRecursion, list_all}
 use Rattle.std.proofs.lemmas.Bool.Decides.{nat_tests}
@@ -7,13 +7,15 @@ use Rattle.serde_json.specs.Data.{Data, Items, no_items, item}
 use Rattle.carrier_model.specs.FileTrees.{sorted}
 use Rattle.carrier_model.proofs.StoreOrder.{sorted-again}
 use Rattle.json_model.specs.Digits.{read_guid, read_hex}
-use Rattle.json_model.specs.Faults.{◌>>=◌, check, under, fault_here, form, order, deep}
+use Rattle.json_model.specs.Faults.{◌>>=◌, check, under, mapped, fault_here, form, order, deep}
 use Rattle.json_model.specs.Parts.{has_members, member_at, in_turn, read_each, items_at}
 use Rattle.json_model.specs.StoreForms.{Entry, storage_entry, stream_entry, path_of, comes_next, front_below, read_path, read_storage_entry, read_stream_entry, read_entry, read_next_entry, read_entries, files_of, is_fit, read_store, MOST_NAME, STORAGE, STREAM, STORE}
 use Rattle.json_model.specs.Texts.{read_name}
 use Rattle.json_model.proofs.Sound.{bind_was, under_was, check_was}
 use Rattle.json_model.proofs.SoundStores.{store_is}
-use Rattle.tree_from_json.specs.Entries.{tree_at}
+use Rattle.tree_from_json.specs.Entries.{shortened, tree_at}
+use Rattle.tree_from_json.proofs.Reading.{under_mapped}
+use Rattle.tree_from_json.proofs.Shortened.{fits_same, tree_same}
 
 abbrev HasName : Entry → Type 0
 HasName e = 0 < length (path_of e)
@@ -68,7 +70,7 @@ all_below (e ∷ es) h =
     rw below (ap (λ l. e ∷ l) (all_below es h.1))
 
 -- the store of the entries is that of all of them, and it is in order
-pub store_read : (v a b : Data) (class : List ℕ) (es : List Entry) → has_members STORE v ≡ true → member_at (codes "class") v ≡ Ok a → under 0 (read_guid a) ≡ Ok class → member_at (codes "members") v ≡ Ok b → under 1 (read_entries b) ≡ Ok es → list_all is_fit es ≡ true
+store_read : (v a b : Data) (class : List ℕ) (es : List Entry) → has_members STORE v ≡ true → member_at (codes "class") v ≡ Ok a → under 0 (read_guid a) ≡ Ok class → member_at (codes "members") v ≡ Ok b → under 1 (read_entries b) ≡ Ok es → list_all is_fit es ≡ true
     → read_store v ≡ Ok (record { class = class; members = sorted (tree_at 0 (front_below 0 es)) })
 store_read v a b class es has at is to are fit =
     let read : read_store v ≡ Ok (record { class = class; members = files_of es }) =
@@ -83,3 +85,20 @@ store_read v a b class es has at is to are fit =
     let whole : tree_at 0 (front_below 0 es) ≡ files_of es = ap (tree_at 0) (all_below es (entries_some [] ds es tt turn)) in
     let order = ap sorted whole ∙ sorted-again (files_of es) keeps.order keeps.members in
     read ∙ ap (λ m. Ok (record { class = class; members = m })) (sym order)
+
+-- the same of entries that were shortened
+pub short_read : (v a b : Data) (class : List ℕ) (es : List Entry) → has_members STORE v ≡ true → member_at (codes "class") v ≡ Ok a → under 0 (read_guid a) ≡ Ok class → member_at (codes "members") v ≡ Ok b → under 1 (mapped (map shortened) (read_entries b)) ≡ Ok es → list_all is_fit es ≡ true
+    → read_store v ≡ Ok (record { class = class; members = sorted (tree_at 0 (front_below 0 es)) })
+short_read v a b class es has at is to are fit =
+    let (whole, read, short) = under_mapped (map shortened) 1 (read_entries b) es are in
+    let fits = sym (fits_same whole) ∙ (ap (list_all is_fit) short ∙ fit) in
+    let tree = ap (λ l. tree_at 0 (front_below 0 l)) (sym short) ∙ tree_same 0 whole in
+    store_read v a b class whole has at is to read fits ∙ ap (λ f. Ok (record { class = class; members = sorted f })) (sym tree)
+
+-- entries that do not fit
+pub unfit_read : (v a b : Data) (class : List ℕ) (es : List Entry) → has_members STORE v ≡ true → member_at (codes "class") v ≡ Ok a → under 0 (read_guid a) ≡ Ok class → member_at (codes "members") v ≡ Ok b → under 1 (mapped (map shortened) (read_entries b)) ≡ Ok es → list_all is_fit es ≡ false
+    → read_store v ≡ Err (fault_here deep)
+unfit_read v a b class es has at is to are unfit =
+    let (whole, read, short) = under_mapped (map shortened) 1 (read_entries b) es are in
+    let fits : list_all is_fit whole ≡ false = sym (fits_same whole) ∙ (ap (list_all is_fit) short ∙ unfit) in
+    rw (has, at, is, to, read, fits) refl

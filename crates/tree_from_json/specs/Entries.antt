@@ -1,14 +1,37 @@
--- The entries of a store as they are read, and the members that they are.
-use Rattle.std.specs.Prelude.{ℕ, suc, map, List, length}
+-- The entries of a store as they are read, what is kept of them, and the members that they are.
+use Rattle.std.specs.Prelude.{ℕ, zero, suc, map, List, [], ◌∷◌, length}
 use Rattle.carrier_model.specs.FileTrees.{FileTree, Named, bytes_at, store_at, files_listed, in_order_below, sorted}
 use Rattle.json_model.specs.StoreForms as plain
 use Rattle.json_model.specs.StoreForms.{files_within, front_below, behind_below, last_name}
+use Rattle.tree_from_json.specs.declared.entries.Content.{Content}
+use Rattle.tree_from_json.specs.declared.entries.Content.TheVariants.{Storage, Stream}
 use Rattle.tree_from_json.specs.declared.entries.Entry.{Entry}
-use Rattle.tree_from_json.specs.declared.entries.Entry.TheVariants.{Storage, Stream}
+use Rattle.tree_from_json.specs.declared.entries.Placed.{Placed}
+
+abbrev pub entry_at : List (List ℕ) → Content → plain.Entry
+entry_at path (Storage class) = plain.storage_entry path class.0
+entry_at path (Stream bytes) = plain.stream_entry path bytes.items
 
 abbrev pub entry_of : Entry → plain.Entry
-entry_of (Storage path class) = plain.storage_entry path.items class.0
-entry_of (Stream path bytes) = plain.stream_entry path.items bytes.items
+entry_of e = entry_at e.path.items e.content
+
+-- ---- what is kept of an entry
+
+-- so many names, all of them empty but the last
+abbrev pub path_to : ℕ → List ℕ → List (List ℕ)
+path_to zero name = []
+path_to (suc zero) name = name ∷ []
+path_to (suc (suc n)) name = [] ∷ path_to (suc n) name
+
+abbrev pub placed_of : Placed → plain.Entry
+placed_of p = entry_at (path_to p.level p.name) p.content
+
+-- an entry with no more of its path than how many names it has, and the last
+abbrev pub shortened : plain.Entry → plain.Entry
+shortened (plain.storage_entry path class) = plain.storage_entry (path_to (length path) (last_name path)) class
+shortened (plain.stream_entry path x) = plain.stream_entry (path_to (length path) (last_name path)) x
+
+-- ---- the members
 
 -- the members of a storage whose path has so many names, by its entries
 abbrev pub tree_at : ℕ → List plain.Entry → FileTree

@@ -1,18 +1,19 @@
 //! The entries of a store from JSON values.
-ghost use Rattle.std.specs.Prelude.{map};
+ghost use Rattle.std.specs.Prelude.{◌≡◌, ◌++◌, map, option_copied, option_to_list, OnOk};
 ghost use Rattle.json_values.specs.View.{view};
 ghost use Rattle.json_model.specs.StoreForms as plain;
+ghost use Rattle.json_model.specs.Faults.{mapped};
 ghost use Rattle.json_model.specs.Parts.{read_each};
 ghost use Rattle.json_model.specs.Texts.{read_name as name_meant};
 ghost use Rattle.tree_from_json.specs.Ends.{Reads};
-ghost use Rattle.tree_from_json.specs.Entries.{entry_of};
+ghost use Rattle.tree_from_json.specs.Entries.{entry_of, placed_of, shortened};
 
-use crate::entries::{Entry, comes_next};
+use crate::entries::{Content, Entry, Placed, comes_next};
 use crate::read_digits::{read_guid, read_hex};
 use crate::read_ends::{JsonWhy, ReadEnd, fault_here, under};
 use crate::read_parts::{has_members, items, member};
 use crate::read_texts::read_name;
-use carrier_io::Units;
+use carrier_io::{NoMemory, Units};
 use json_values::{Value, unboxed};
 use std::alloc::Global;
 
@@ -50,7 +51,10 @@ fn read_storage(alloc: Global, value: &Value) -> Result<Entry, ReadEnd>
     let class = under(read_guid(alloc, class), 0)?;
     let path = member(alloc, value, "path")?;
     let path = under(read_path(alloc, path), 1)?;
-    Ok(Entry::Storage { path, class })
+    Ok(Entry {
+        path,
+        content: Content::Storage(class),
+    })
 }
 
 fn read_stream(alloc: Global, value: &Value) -> Result<Entry, ReadEnd>
@@ -60,7 +64,10 @@ fn read_stream(alloc: Global, value: &Value) -> Result<Entry, ReadEnd>
     let bytes = under(read_hex(alloc, data), 0)?;
     let path = member(alloc, value, "path")?;
     let path = under(read_path(alloc, path), 1)?;
-    Ok(Entry::Stream { path, bytes })
+    Ok(Entry {
+        path,
+        content: Content::Stream(bytes),
+    })
 }
 
 fn read_entry(alloc: Global, value: &Value) -> Result<Entry, ReadEnd>
@@ -75,26 +82,39 @@ fn read_entry(alloc: Global, value: &Value) -> Result<Entry, ReadEnd>
     Err(fault_here(alloc, JsonWhy::Form))
 }
 
-/// An entry behind others.
-fn read_next(alloc: Global, value: &Value, before: &[Entry]) -> Result<Entry, ReadEnd>
-    ensures { Reads entry_of (plain.read_next_entry (map entry_of before.now) (view value.now)) result }
+/// An entry behind the last one, or the first.
+fn read_next(alloc: Global, value: &Value, last: Option<&Entry>) -> Result<Entry, ReadEnd>
+    ensures { Reads entry_of (plain.read_next_entry (map entry_of (option_to_list (option_copied last.entry))) (view value.now)) result }
 {
     let entry = read_entry(alloc, value)?;
-    if !comes_next(before, &entry) {
+    if !comes_next(last, &entry) {
         return Err(fault_here(alloc, JsonWhy::Order));
     }
     Ok(entry)
 }
 
-/// The entries of a store, each behind those before it.
-pub(crate) fn read_entries(alloc: Global, value: &Value) -> Result<Vec<Entry>, ReadEnd>
-    ensures { Reads (λ v. map entry_of v.items) (plain.read_entries (view value.now)) result }
+/// Puts what is kept of an entry, if there is one, behind the others.
+fn keep(alloc: Global, kept: &mut Vec<Placed>, entry: Option<Entry>) -> Result<(), NoMemory>
+    ensures { OnOk result (map placed_of kept.new.items ≡ map placed_of kept.old.items ++ map shortened (map entry_of (option_to_list entry))) }
+{
+    if let Some(entry) = entry {
+        kept.push(entry.placed(alloc))?;
+    }
+    Ok(())
+}
+
+/// The entries of a store, each behind the one before it. A whole path is held only of the last one.
+pub(crate) fn read_entries(alloc: Global, value: &Value) -> Result<Vec<Placed>, ReadEnd>
+    ensures { Reads (λ v. map placed_of v.items) (mapped (map shortened) (plain.read_entries (view value.now))) result }
 {
     let values = unboxed(items(alloc, value)?);
-    let mut entries = Vec::with_capacity(alloc, values.len())?;
+    let mut kept = Vec::with_capacity(alloc, values.len())?;
+    let mut last = None;
     for k in 0..values.len() {
-        let entry = under(read_next(alloc, &values[k], &entries), k as u64)?;
-        entries.push(entry)?;
+        let entry = under(read_next(alloc, &values[k], last.as_ref()), k as u64)?;
+        keep(alloc, &mut kept, last)?;
+        last = Some(entry);
     }
-    Ok(entries)
+    keep(alloc, &mut kept, last)?;
+    Ok(kept)
 }

@@ -1,5 +1,5 @@
 //! Stores from JSON values. [MS-CFB 1.3 and 2.6]
-ghost use Rattle.std.specs.Prelude.{◌≡◌, ◌<◌, ◌++◌, ◌∷◌, [], IfOk, OnOk, IfSome, IfNone, length, map};
+ghost use Rattle.std.specs.Prelude.{◌≡◌, ◌<◌, ◌++◌, ◌∷◌, [], IfOk, OnOk, IfSome, IfNone, map};
 ghost use Rattle.std.specs.List.{list_all};
 ghost use Rattle.json_values.specs.View.{view};
 ghost use Rattle.carrier_model.specs.FileTrees.{sorted};
@@ -7,14 +7,14 @@ ghost use Rattle.json_model.specs.StoreForms as plain;
 ghost use Rattle.msg_tree.specs.Gathering.{gathered};
 ghost use Rattle.msg_tree.specs.StoreMeaning.{store_of};
 ghost use Rattle.tree_from_json.specs.Ends.{Reads};
-ghost use Rattle.tree_from_json.specs.Entries.{entry_of, members_at, member_of, behind, tree_at};
+ghost use Rattle.tree_from_json.specs.Entries.{placed_of, members_at, member_of, behind, tree_at};
 
-use crate::entries::Entry;
+use crate::entries::{Content, Placed};
 use crate::read_digits::read_guid;
 use crate::read_ends::{JsonWhy, ReadEnd, fault_here, under};
 use crate::read_entries::read_entries;
 use crate::read_parts::{has_members, member};
-use carrier_io::{NoMemory, Units};
+use carrier_io::NoMemory;
 use cfb_names::is_property_stream;
 use json_values::Value;
 use msg_tree::{Member, Members, Store};
@@ -24,27 +24,19 @@ use std::collections::VecDeque;
 /// The most storages that stand one below another.
 const MOST_STORAGES: usize = 32;
 
-fn last_name(path: &[Units]) -> &[u16]
-    ensures { result.now ≡ plain.last_name path.now }
-{
-    match path.last() {
-        Some(name) => name.as_slice(),
-        None => &[],
-    }
-}
-
 /// Whether an entry is no storage that stands too deep, and no stream that makes the store a message.
-fn is_fit(entry: &Entry) -> bool
-    ensures { result ≡ plain.is_fit (entry_of entry.now) }
+#[tactic(auto, using(crate::proofs::Shortened::path_long))]
+fn is_fit(entry: &Placed) -> bool
+    ensures { result ≡ plain.is_fit (placed_of entry.now) }
 {
-    match entry {
-        Entry::Storage { path, .. } => path.len() <= MOST_STORAGES,
-        Entry::Stream { path, .. } => path.len() != 1 || !is_property_stream(last_name(path)),
+    match entry.content {
+        Content::Storage(_) => entry.level <= MOST_STORAGES,
+        Content::Stream(_) => entry.level != 1 || !is_property_stream(entry.name.as_slice()),
     }
 }
 
-fn are_fit(entries: &[Entry]) -> bool
-    ensures { result ≡ list_all plain.is_fit (map entry_of entries.now) }
+fn are_fit(entries: &[Placed]) -> bool
+    ensures { result ≡ list_all plain.is_fit (map placed_of entries.now) }
 {
     for entry in entries {
         if !is_fit(entry) {
@@ -54,15 +46,24 @@ fn are_fit(entries: &[Entry]) -> bool
     true
 }
 
+/// Whether the path of an entry has more than so many names.
+#[tactic(auto, using(crate::proofs::Shortened::placed_long))]
+fn is_below(entry: &Placed, level: usize) -> bool
+    ensures { result ≡ plain.is_below level (placed_of entry.now) }
+{
+    entry.level > level
+}
+
 /// Takes the first entry, if there is one and its path has more than so many names.
-fn next_below(entries: &mut VecDeque<Entry>, level: usize) -> Option<Entry>
-    ensures taken { IfSome result (λ e. map entry_of entries.old.items ≡ entry_of e ∷ map entry_of entries.new.items) }
-    ensures below { IfSome result (λ e. level < length (plain.path_of (entry_of e))) }
-    ensures none { IfNone result (plain.front_below level (map entry_of entries.old.items) ≡ []) }
-    ensures left { IfNone result (plain.behind_below level (map entry_of entries.old.items) ≡ map entry_of entries.new.items) }
+#[tactic(auto, using(crate::proofs::Shortened::level_below))]
+fn next_below(entries: &mut VecDeque<Placed>, level: usize) -> Option<Placed>
+    ensures taken { IfSome result (λ e. map placed_of entries.old.items ≡ placed_of e ∷ map placed_of entries.new.items) }
+    ensures below { IfSome result (λ e. level < e.level) }
+    ensures none { IfNone result (plain.front_below level (map placed_of entries.old.items) ≡ []) }
+    ensures left { IfNone result (plain.behind_below level (map placed_of entries.old.items) ≡ map placed_of entries.new.items) }
 {
     match entries.front() {
-        Some(entry) if entry.path().len() > level => entries.pop_front(),
+        Some(entry) if is_below(entry, level) => entries.pop_front(),
         _ => None,
     }
 }
@@ -71,11 +72,11 @@ fn next_below(entries: &mut VecDeque<Entry>, level: usize) -> Option<Entry>
 #[cycle(building)]
 fn take_members(
     alloc: Global,
-    entries: &mut VecDeque<Entry>,
+    entries: &mut VecDeque<Placed>,
     level: usize,
 ) -> Result<Members<Vec<u8>>, NoMemory>
-    ensures ok { IfOk result (λ m. gathered (λ b. b.items) m ≡ members_at level (plain.front_below level (map entry_of entries.old.items))) }
-    ensures rest { OnOk result (map entry_of entries.new.items ≡ plain.behind_below level (map entry_of entries.old.items)) }
+    ensures ok { IfOk result (λ m. gathered (λ b. b.items) m ≡ members_at level (plain.front_below level (map placed_of entries.old.items))) }
+    ensures rest { OnOk result (map placed_of entries.new.items ≡ plain.behind_below level (map placed_of entries.old.items)) }
 {
     let mut members = Members::new(alloc);
     while let Some(entry) = next_below(entries, level) {
@@ -89,26 +90,27 @@ fn take_members(
 fn push_member(
     alloc: Global,
     members: &mut Members<Vec<u8>>,
-    entry: Entry,
-    entries: &mut VecDeque<Entry>,
+    entry: Placed,
+    entries: &mut VecDeque<Placed>,
     level: usize,
 ) -> Result<(), NoMemory>
-    requires { level < length (plain.path_of (entry_of entry)) }
-    ensures ok { OnOk result (gathered (λ b. b.items) members.new ≡ gathered (λ b. b.items) members.old ++ member_of level (entry_of entry) (map entry_of entries.old.items) ∷ []) }
-    ensures rest { OnOk result (map entry_of entries.new.items ≡ behind level (entry_of entry) (map entry_of entries.old.items)) }
+    requires { level < entry.level }
+    ensures ok { OnOk result (gathered (λ b. b.items) members.new ≡ gathered (λ b. b.items) members.old ++ member_of level (placed_of entry) (map placed_of entries.old.items) ∷ []) }
+    ensures rest { OnOk result (map placed_of entries.new.items ≡ behind level (placed_of entry) (map placed_of entries.old.items)) }
 {
-    match entry {
-        Entry::Storage { path, class } => {
+    let Placed { name, content, .. } = entry;
+    match content {
+        Content::Storage(class) => {
             let inside = take_members(alloc, entries, level + 1)?.into_store(class.0)?;
-            members.push(last_name(&path), Member::Storage(inside))
+            members.push(name.as_slice(), Member::Storage(inside))
         }
-        Entry::Stream { path, bytes } => members.push(last_name(&path), Member::Stream(bytes)),
+        Content::Stream(bytes) => members.push(name.as_slice(), Member::Stream(bytes)),
     }
 }
 
 /// The store of a class and of entries in turn.
-fn built(alloc: Global, class: [u8; 16], entries: Vec<Entry>) -> Result<Store<Vec<u8>>, NoMemory>
-    ensures { IfOk result (λ s. store_of (λ b. b.items) s ≡ record { class = class; members = sorted (tree_at 0 (plain.front_below 0 (map entry_of entries.items))) }) }
+fn built(alloc: Global, class: [u8; 16], entries: Vec<Placed>) -> Result<Store<Vec<u8>>, NoMemory>
+    ensures { IfOk result (λ s. store_of (λ b. b.items) s ≡ record { class = class; members = sorted (tree_at 0 (plain.front_below 0 (map placed_of entries.items))) }) }
 {
     let mut entries = VecDeque::from_vec(entries);
     take_members(alloc, &mut entries, 0)?.into_store(class)

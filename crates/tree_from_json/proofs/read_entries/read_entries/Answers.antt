@@ -1,31 +1,42 @@
-use Rattle.std.proofs.Common.{◌∙◌, sym, ap, subst, map, List, [], ◌∷◌, Vec, Global, length, length-append, arith}
-use Rattle.std.specs.Prelude.{Ok, Err}
-use Rattle.std.proofs.lemmas.List.{map-append, length-map}
+use Rattle.std.proofs.Common.{◌∙◌, refl, sym, ap, subst, arith, Vec, Global, List, [], Option}
+use Rattle.std.specs.Prelude.{Result, Ok, Err, map}
 use Rattle.std.proofs.lemmas.Result.{err_from_is_err_and}
-use Rattle.json_model.specs.StoreForms.{read_next_entry}
 use Rattle.json_values.specs.View.{view, items_view}
-use Rattle.tree_from_json.specs.Ends.{Reads, ReadsBelow}
-use Rattle.tree_from_json.specs.Entries.{entry_of}
+use Rattle.json_model.specs.Faults.{◌>>=◌, mapped}
+use Rattle.json_model.specs.Parts.{in_turn}
+use Rattle.json_model.specs.StoreForms.{read_entries, read_next_entry}
+use Rattle.json_model.specs.StoreForms as plain
+use Rattle.tree_from_json.specs.Ends.{Reads}
+use Rattle.tree_from_json.specs.Entries.{entry_of, placed_of, shortened}
 use Rattle.tree_from_json.specs.declared.entries.Entry.{Entry}
-use Rattle.tree_from_json.proofs.Turns.{turn_ok, turn_err, array_err}
+use Rattle.tree_from_json.specs.declared.entries.Placed.{Placed}
+use Rattle.tree_from_json.specs.declared.read_ends.ReadEnd.{ReadEnd}
+use Rattle.tree_from_json.proofs.EntryLists.{held_more, held_err, held_all, whole}
+use Rattle.tree_from_json.proofs.Reading.{mapped_err}
+use Rattle.tree_from_json.proofs.Turns.{array_err}
 use Rattle.tree_from_json.proofs.read_entries.read_entries.Goals as goal
+
+abbrev kept_of : Vec Placed Global → List plain.Entry
+kept_of v = map placed_of v.items
+
+pub loop-k-preserved : goal.loop-k-preserved
+loop-k-preserved c =
+    let read = subst (λ (last : Option Entry). Reads entry_of (read_next_entry (whole last) (view c.index-values-k.result)) c.read_next.result) c.as_ref.ensures.value c.read_next.ensures in
+    held_more c.loop-k.kept.items c.keep.new.kept.items c.loop-k.last c.in_ok-entry.entry c.loop-k.k c.unboxed-values.result.now c.index-values-k.result c.read_next.result (omega (arith, c.loop-k-test.true)) c.index-values-k.is read c.in_ok-entry.ensures c.in_ok-keep.ensures c.loop-k.invariant
 
 pub returns-in_err-entry : goal.returns-in_err-entry
 returns-in_err-entry c =
     let p = err_from_is_err_and c.from_residual-in_err-entry.result c.from_residual-in_err-entry.ensures.1 in
     let e = c.in_err-entry.field-0.0 in
-    let read = subst (λ l. Reads entry_of (read_next_entry (map entry_of l) (view c.index-values-k.result)) c.read_next.result) c.deref.ensures.value c.read_next.ensures in
-    let below = subst (λ k. ReadsBelow k c.read_next.result (Err e)) (sym c.loop-k.invariant.count) c.in_err-entry.ensures in
-    let found = (c.in_ok-items.ensures ∙ ap (λ l. Ok (items_view l)) (sym c.unboxed-values.ensures)) in
-    array_err (λ (v : Vec Entry Global). map entry_of v.items) read_next_entry (view c.args.value.now) _ e _ found (p.1 ∙ ap Err p.2)
-    (turn_err entry_of (λ (v : Vec Entry Global). map entry_of v.items) read_next_entry (map entry_of c.loop-k.entries.items) c.loop-k.k c.unboxed-values.result.now c.index-values-k.result c.read_next.result e (omega (arith, c.loop-k-test.true)) c.index-values-k.is read below c.loop-k.invariant.turns)
+    let v = view c.args.value.now in
+    let read = subst (λ (last : Option Entry). Reads entry_of (read_next_entry (whole last) (view c.index-values-k.result)) c.read_next.result) c.as_ref.ensures.value c.read_next.ensures in
+    let found = c.in_ok-items.ensures ∙ ap (λ l. Ok (items_view l)) (sym c.unboxed-values.ensures) in
+    let turn = held_err c.loop-k.kept.items c.loop-k.last c.loop-k.k c.unboxed-values.result.now c.index-values-k.result c.read_next.result e (omega (arith, c.loop-k-test.true)) c.index-values-k.is read c.in_err-entry.ensures c.loop-k.invariant in
+    let plainly = array_err (λ (es : List plain.Entry). es) read_next_entry v _ e (Err e) found refl turn in
+    subst (λ (r : Result (Vec Placed Global) ReadEnd). Reads kept_of (mapped (map shortened) (read_entries v)) r) (sym (p.1 ∙ ap Err p.2)) (mapped_err (λ (es : List plain.Entry). es) kept_of (map shortened) (read_entries v) e plainly)
 
-pub loop-k-preserved : goal.loop-k-preserved
-loop-k-preserved c =
-    let read = subst (λ l. Reads entry_of (read_next_entry (map entry_of l) (view c.index-values-k.result)) c.read_next.result) c.deref.ensures.value c.read_next.ensures in
-    let below = subst (λ k. ReadsBelow k c.read_next.result (Ok c.in_ok-entry.entry)) (sym c.loop-k.invariant.count) c.in_ok-entry.ensures in
-    let more = ap (λ l. map entry_of l) c.in_ok-push.ensures.items ∙ map-append entry_of c.loop-k.entries.items _ in
-    record {
-      count = length-map c.push.new.self.items entry_of ∙ (ap (λ (l : List Entry). length l) c.in_ok-push.ensures.items ∙ omega (arith, c.loop-k.invariant.count, length-map c.loop-k.entries.items entry_of, length-append c.loop-k.entries.items (c.in_ok-entry.entry ∷ [])));
-      turns = turn_ok entry_of read_next_entry (map entry_of c.loop-k.entries.items) c.loop-k.k c.unboxed-values.result.now c.index-values-k.result c.read_next.result c.in_ok-entry.entry _ (omega (arith, c.loop-k-test.true)) c.index-values-k.is read below more c.loop-k.invariant.turns;
-    }
+pub returns : goal.returns
+returns c =
+    let found = c.in_ok-items.ensures ∙ ap (λ l. Ok (items_view l)) (sym c.unboxed-values.ensures) in
+    ap (λ m. mapped (map shortened) (m >>= in_turn read_next_entry [])) found
+    ∙ held_all c.loop-k.kept.items c.keep-2.new.kept.items c.loop-k.last c.loop-k.k c.unboxed-values.result.now (omega (arith, c.loop-k-test.false, c.loop-k.auto.k-end)) c.in_ok-keep-2.ensures c.loop-k.invariant
