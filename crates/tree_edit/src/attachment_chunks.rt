@@ -8,25 +8,25 @@ use crate::chunked_list::ChunkedList;
 use crate::editable::{Editable, edit_in_turn};
 use crate::editing::{OnceEnd, empty, place_in};
 use crate::ends::EditWhy;
-use carrier_io::NoMemory;
+use carrier_io::{Holds, NoMemory};
 use edit_words::{Edit, EditRun};
 use msg_tree::{Attachment, Attachments};
 use std::alloc::Global;
 
-impl Editable for Attachments<Vec<u8>> {
+impl<C: Holds<Vec<u8>>> Editable for Attachments<C> {
     ghost use Rattle.std.specs.Prelude.{List, map};
     ghost use Rattle.carrier_model.specs.Tree.{Attached};
     ghost use Rattle.msg_tree.specs.Meaning.{attached_of};
     ghost use Rattle.tree_edit.specs.ChunkedLists.{listed};
     ghost use Rattle.tree_edit.specs.declared.ends.EditWhy.TheVariants as whys;
 
-    type Form = ChunkedList<Attachment<Vec<u8>>>;
+    type Form = ChunkedList<Attachment<C>>;
 
     ghost Plain = { List Attached };
 
-    ghost plain = { list_of (λ v. v.items) };
+    ghost plain = { list_of C.bytes };
 
-    ghost held = { λ chunks. map (attached_of (λ v. v.items)) (listed chunks) };
+    ghost held = { λ chunks. map (attached_of C.bytes) (listed chunks) };
 
     ghost edited = { on_attachments };
 
@@ -73,15 +73,15 @@ impl Editable for Attachments<Vec<u8>> {
 
 /// Does an edit of the list, and those behind it up to the first that can't be done. It answers how many of those behind it
 /// were done. Where there are any, all attachments are moved into chunks and back.
-pub fn edit_attachments(
+pub fn edit_attachments<C: Holds<Vec<u8>>>(
     alloc: Global,
-    attachments: &mut Attachments<Vec<u8>>,
+    attachments: &mut Attachments<C>,
     edit: Edit,
     behind: &EditRun<'_>,
 ) -> Result<usize, OnceEnd>
     ensures count { IfOk result (λ n. n ≤ length behind.now) }
-    ensures ok { IfOk result (λ n. in_turn on_attachments (edit_of edit) (take n behind.now) (list_of (λ v. v.items) attachments.old) ≡ Ok (list_of (λ v. v.items) attachments.new)) }
-    ensures err { IfErr result (IsCauseOf (on_attachments (edit_of edit) (list_of (λ v. v.items) attachments.old))) }
+    ensures ok { IfOk result (λ n. in_turn on_attachments (edit_of edit) (take n behind.now) (list_of C.bytes attachments.old) ≡ Ok (list_of C.bytes attachments.new)) }
+    ensures err { IfErr result (IsCauseOf (on_attachments (edit_of edit) (list_of C.bytes attachments.old))) }
 {
     edit_in_turn(alloc, attachments, edit, behind)
 }

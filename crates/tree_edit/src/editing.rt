@@ -12,7 +12,7 @@ use crate::attachment_chunks::edit_attachments;
 use crate::ends::EditWhy;
 use crate::lists::edit_props;
 use crate::recipient_chunks::edit_recipients;
-use carrier_io::NoMemory;
+use carrier_io::{Blob, Holds, NoMemory};
 use edit_words::{Edit, EditRun, Part, Spot};
 use msg_tree::{Attachment, Attachments, Body, Message, Recipients};
 use prop_values::Props;
@@ -48,7 +48,7 @@ pub fn place_in(number: u64, count: usize) -> Result<usize, OnceEnd>
 }
 
 /// An attachment without anything.
-pub fn empty(alloc: Global) -> Attachment<Vec<u8>> {
+pub fn empty<B: Blob>(alloc: Global) -> Attachment<B> {
     Attachment {
         props: Props::new(alloc),
         body: Body::Plain,
@@ -56,9 +56,9 @@ pub fn empty(alloc: Global) -> Attachment<Vec<u8>> {
 }
 
 /// Edits the properties of a recipient.
-fn edit_recipient(
+fn edit_recipient<C: Holds<Vec<u8>>>(
     alloc: Global,
-    recipients: &mut Recipients<Vec<u8>>,
+    recipients: &mut Recipients<C>,
     number: u64,
     edit: Edit,
     behind: &EditRun<'_>,
@@ -75,16 +75,16 @@ fn edit_recipient(
 }
 
 /// Edits the properties of an attachment.
-fn edit_attachment(
+fn edit_attachment<C: Holds<Vec<u8>>>(
     alloc: Global,
-    attachments: &mut Attachments<Vec<u8>>,
+    attachments: &mut Attachments<C>,
     number: u64,
     edit: Edit,
     behind: &EditRun<'_>,
 ) -> Result<usize, OnceEnd>
     ensures count { IfOk result (λ n. n ≤ length behind.now) }
-    ensures ok { IfOk result (λ n. changed_at (with_props (in_turn on_props (edit_of edit) (take n behind.now))) number (list_of (λ v. v.items) attachments.old) ≡ Ok (list_of (λ v. v.items) attachments.new)) }
-    ensures err { IfErr result (IsCauseOf (changed_at (with_props (on_props (edit_of edit))) number (list_of (λ v. v.items) attachments.old))) }
+    ensures ok { IfOk result (λ n. changed_at (with_props (in_turn on_props (edit_of edit) (take n behind.now))) number (list_of C.bytes attachments.old) ≡ Ok (list_of C.bytes attachments.new)) }
+    ensures err { IfErr result (IsCauseOf (changed_at (with_props (on_props (edit_of edit))) number (list_of C.bytes attachments.old))) }
 {
     let k = place_in(number, attachments.len())?;
     let mut held = attachments.replace(k, empty(alloc));
@@ -94,16 +94,16 @@ fn edit_attachment(
 }
 
 /// Edits the properties of a spot.
-fn edit_spot(
+fn edit_spot<C: Holds<Vec<u8>>>(
     alloc: Global,
-    message: &mut Message<Vec<u8>>,
+    message: &mut Message<C>,
     spot: Spot,
     edit: Edit,
     behind: &EditRun<'_>,
 ) -> Result<usize, OnceEnd>
     ensures count { IfOk result (λ n. n ≤ length behind.now) }
-    ensures ok { IfOk result (λ n. at_spot (in_turn on_props (edit_of edit) (take n behind.now)) (spot_of spot) (tree_of (λ v. v.items) message.old) ≡ Ok (tree_of (λ v. v.items) message.new)) }
-    ensures err { IfErr result (IsCauseOf (at_spot (on_props (edit_of edit)) (spot_of spot) (tree_of (λ v. v.items) message.old))) }
+    ensures ok { IfOk result (λ n. at_spot (in_turn on_props (edit_of edit) (take n behind.now)) (spot_of spot) (tree_of C.bytes message.old) ≡ Ok (tree_of C.bytes message.new)) }
+    ensures err { IfErr result (IsCauseOf (at_spot (on_props (edit_of edit)) (spot_of spot) (tree_of C.bytes message.old))) }
 {
     match spot {
         Spot::Message => edit_props(alloc, &mut message.props, edit, behind),
@@ -113,15 +113,15 @@ fn edit_spot(
 }
 
 /// Does edits of a part of a message.
-fn edit_here(
+fn edit_here<C: Holds<Vec<u8>>>(
     alloc: Global,
-    message: &mut Message<Vec<u8>>,
+    message: &mut Message<C>,
     edit: Edit,
     behind: &EditRun<'_>,
 ) -> Result<usize, OnceEnd>
     ensures count { IfOk result (λ n. n ≤ length behind.now) }
-    ensures ok { IfOk result (λ n. on_part (part_of (edit_of edit)) (edit_of edit) (take n behind.now) (tree_of (λ v. v.items) message.old) ≡ Ok (tree_of (λ v. v.items) message.new)) }
-    ensures err { IfErr result (IsCauseOf (on_part (part_of (edit_of edit)) (edit_of edit) [] (tree_of (λ v. v.items) message.old))) }
+    ensures ok { IfOk result (λ n. on_part (part_of (edit_of edit)) (edit_of edit) (take n behind.now) (tree_of C.bytes message.old) ≡ Ok (tree_of C.bytes message.new)) }
+    ensures err { IfErr result (IsCauseOf (on_part (part_of (edit_of edit)) (edit_of edit) [] (tree_of C.bytes message.old))) }
 {
     match edit.part() {
         Part::Props(spot) => edit_spot(alloc, message, spot, edit, behind),
@@ -132,16 +132,16 @@ fn edit_here(
 
 /// Does edits of a part of the message to which what is left of their path leads.
 #[cycle(below)]
-fn edit_below(
+fn edit_below<C: Holds<Vec<u8>>>(
     alloc: Global,
-    message: &mut Message<Vec<u8>>,
+    message: &mut Message<C>,
     at: usize,
     edit: Edit,
     behind: &EditRun<'_>,
 ) -> Result<usize, OnceEnd>
     ensures count { IfOk result (λ n. n ≤ length behind.now) }
-    ensures ok { IfOk result (λ n. at_path (on_part (part_of (edit_of edit)) (edit_of edit) (take n behind.now)) (drop at (path_of (edit_of edit))) (tree_of (λ v. v.items) message.old) ≡ Ok (tree_of (λ v. v.items) message.new)) }
-    ensures err { IfErr result (IsCauseOf (at_path (on_part (part_of (edit_of edit)) (edit_of edit) []) (drop at (path_of (edit_of edit))) (tree_of (λ v. v.items) message.old))) }
+    ensures ok { IfOk result (λ n. at_path (on_part (part_of (edit_of edit)) (edit_of edit) (take n behind.now)) (drop at (path_of (edit_of edit))) (tree_of C.bytes message.old) ≡ Ok (tree_of C.bytes message.new)) }
+    ensures err { IfErr result (IsCauseOf (at_path (on_part (part_of (edit_of edit)) (edit_of edit) []) (drop at (path_of (edit_of edit))) (tree_of C.bytes message.old))) }
 {
     let path = edit.path();
     if at >= path.len() {
@@ -160,17 +160,17 @@ fn edit_below(
 
 /// Does edits of a part of the message of an attachment or of one below it.
 #[cycle(below)]
-fn edit_in_attachment(
+fn edit_in_attachment<C: Holds<Vec<u8>>>(
     alloc: Global,
-    attachments: &mut Attachments<Vec<u8>>,
+    attachments: &mut Attachments<C>,
     number: u64,
     at: usize,
     edit: Edit,
     behind: &EditRun<'_>,
 ) -> Result<usize, OnceEnd>
     ensures count { IfOk result (λ n. n ≤ length behind.now) }
-    ensures ok { IfOk result (λ n. changed_at (with_body (at_path (on_part (part_of (edit_of edit)) (edit_of edit) (take n behind.now)) (drop at (path_of (edit_of edit))))) number (list_of (λ v. v.items) attachments.old) ≡ Ok (list_of (λ v. v.items) attachments.new)) }
-    ensures err { IfErr result (IsCauseOf (changed_at (with_body (at_path (on_part (part_of (edit_of edit)) (edit_of edit) []) (drop at (path_of (edit_of edit))))) number (list_of (λ v. v.items) attachments.old))) }
+    ensures ok { IfOk result (λ n. changed_at (with_body (at_path (on_part (part_of (edit_of edit)) (edit_of edit) (take n behind.now)) (drop at (path_of (edit_of edit))))) number (list_of C.bytes attachments.old) ≡ Ok (list_of C.bytes attachments.new)) }
+    ensures err { IfErr result (IsCauseOf (changed_at (with_body (at_path (on_part (part_of (edit_of edit)) (edit_of edit) []) (drop at (path_of (edit_of edit))))) number (list_of C.bytes attachments.old))) }
 {
     let k = place_in(number, attachments.len())?;
     let mut held = attachments.replace(k, empty(alloc));
@@ -181,16 +181,16 @@ fn edit_in_attachment(
 
 /// Does edits of a part of a message that an attachment holds, or of one below it.
 #[cycle(below)]
-fn edit_in_body(
+fn edit_in_body<C: Holds<Vec<u8>>>(
     alloc: Global,
-    body: &mut Body<Vec<u8>>,
+    body: &mut Body<C>,
     at: usize,
     edit: Edit,
     behind: &EditRun<'_>,
 ) -> Result<usize, OnceEnd>
     ensures count { IfOk result (λ n. n ≤ length behind.now) }
-    ensures ok { IfOk result (λ n. body_with (at_path (on_part (part_of (edit_of edit)) (edit_of edit) (take n behind.now)) (drop at (path_of (edit_of edit)))) (body_of (λ v. v.items) body.old) ≡ Ok (body_of (λ v. v.items) body.new)) }
-    ensures err { IfErr result (IsCauseOf (body_with (at_path (on_part (part_of (edit_of edit)) (edit_of edit) []) (drop at (path_of (edit_of edit)))) (body_of (λ v. v.items) body.old))) }
+    ensures ok { IfOk result (λ n. body_with (at_path (on_part (part_of (edit_of edit)) (edit_of edit) (take n behind.now)) (drop at (path_of (edit_of edit)))) (body_of C.bytes body.old) ≡ Ok (body_of C.bytes body.new)) }
+    ensures err { IfErr result (IsCauseOf (body_with (at_path (on_part (part_of (edit_of edit)) (edit_of edit) []) (drop at (path_of (edit_of edit)))) (body_of C.bytes body.old))) }
 {
     match body {
         Body::Message(inner) => edit_below(alloc, inner, at, edit, behind),
@@ -201,15 +201,15 @@ fn edit_in_body(
 
 /// Does an edit, and those behind it, which change the same part of the same message, up to the first that can't be done. The
 /// whole message is of no use where the first wasn't.
-pub fn edit_on(
+pub fn edit_on<C: Holds<Vec<u8>>>(
     alloc: Global,
-    message: &mut Message<Vec<u8>>,
+    message: &mut Message<C>,
     edit: Edit,
     behind: &EditRun<'_>,
 ) -> Result<usize, OnceEnd>
     ensures count { IfOk result (λ n. n ≤ length behind.now) }
-    ensures ok { IfOk result (λ n. at_path (on_part (part_of (edit_of edit)) (edit_of edit) (take n behind.now)) (path_of (edit_of edit)) (tree_of (λ v. v.items) message.old) ≡ Ok (tree_of (λ v. v.items) message.new)) }
-    ensures err { IfErr result (IsCauseOf (at_path (on_part (part_of (edit_of edit)) (edit_of edit) []) (path_of (edit_of edit)) (tree_of (λ v. v.items) message.old))) }
+    ensures ok { IfOk result (λ n. at_path (on_part (part_of (edit_of edit)) (edit_of edit) (take n behind.now)) (path_of (edit_of edit)) (tree_of C.bytes message.old) ≡ Ok (tree_of C.bytes message.new)) }
+    ensures err { IfErr result (IsCauseOf (at_path (on_part (part_of (edit_of edit)) (edit_of edit) []) (path_of (edit_of edit)) (tree_of C.bytes message.old))) }
 {
     edit_below(alloc, message, 0, edit, behind)
 }

@@ -13,4 +13,4 @@ mod runs;
 mod whole;
 
 pub use ends::{EditEnd, EditFault, EditWhy};
-pub use whole::{edit_owned, edited};
+pub use whole::{edit_in_place, edited};

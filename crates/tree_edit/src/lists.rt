@@ -10,14 +10,14 @@ use crate::editable::{Editable, edit_in_turn};
 use crate::editing::OnceEnd;
 use crate::ends::EditWhy;
 use crate::prop_map::{PropMap, listed, mapped};
-use carrier_io::NoMemory;
+use carrier_io::{Blob, Holds, NoMemory};
 use edit_words::{Edit, EditRun};
 use prop_names::Key;
 use prop_values::{InsertEnd, Kind, Prop, Props};
 use std::alloc::Global;
 
 /// Puts a property in its place, and in the place of the one that has its key and kind.
-fn set_prop(props: &mut Props<Vec<u8>>, prop: Prop<Vec<u8>>) -> Result<(), NoMemory>
+fn set_prop<B: Blob>(props: &mut Props<B>, prop: Prop<B>) -> Result<(), NoMemory>
     ensures { OnOk result (with_prop prop props.old ≡ Ok props.new) }
 {
     if let Some(at) = props.find(&prop.key, prop.value.kind()) {
@@ -31,7 +31,7 @@ fn set_prop(props: &mut Props<Vec<u8>>, prop: Prop<Vec<u8>>) -> Result<(), NoMem
 }
 
 /// Takes the property with the key and the kind out. It answers whether it was there.
-fn remove_prop(props: &mut Props<Vec<u8>>, key: &Key, kind: Kind) -> bool
+fn remove_prop<B: Blob>(props: &mut Props<B>, key: &Key, kind: Kind) -> bool
     ensures there { result ≡ true → without_prop (key_of key.now) (kind_number kind) props.old ≡ Ok props.new }
     ensures absent { result ≡ false → without_prop (key_of key.now) (kind_number kind) props.old ≡ Err no_property }
 {
@@ -44,12 +44,12 @@ fn remove_prop(props: &mut Props<Vec<u8>>, key: &Key, kind: Kind) -> bool
     }
 }
 
-impl Editable for Props<Vec<u8>> {
+impl<C: Holds<Vec<u8>>> Editable for Props<C> {
     ghost use Rattle.std.specs.Prelude.{List};
     ghost use Rattle.carrier_model.specs.Values.{Prop as PlainProp};
     ghost use Rattle.tree_edit.specs.declared.ends.EditWhy.TheVariants as whys;
 
-    type Form = PropMap;
+    type Form = PropMap<C>;
 
     ghost Plain = { List PlainProp };
 
@@ -63,10 +63,10 @@ impl Editable for Props<Vec<u8>> {
 
     ghost WHY = { whys.NoProperty };
 
-    fn edit(&mut self, _: Global, edit: Edit) -> Result<bool, NoMemory> {
+    fn edit(&mut self, alloc: Global, edit: Edit) -> Result<bool, NoMemory> {
         match edit {
             Edit::SetProp { prop, .. } => {
-                set_prop(self, prop)?;
+                set_prop(self, prop.into_held(alloc)?)?;
                 Ok(true)
             }
             Edit::RemoveProp { key, kind, .. } => Ok(remove_prop(self, &key, kind)),
@@ -81,7 +81,7 @@ impl Editable for Props<Vec<u8>> {
     fn edit_form(form: &mut Self::Form, alloc: Global, edit: Edit) -> Result<bool, NoMemory> {
         match edit {
             Edit::SetProp { prop, .. } => {
-                form.set(alloc, prop)?;
+                form.set(alloc, prop.into_held(alloc)?)?;
                 Ok(true)
             }
             Edit::RemoveProp { key, kind, .. } => form.remove(alloc, &key, kind),
@@ -97,9 +97,9 @@ impl Editable for Props<Vec<u8>> {
 
 /// Does an edit of properties in a list, and those behind it up to the first that can't be done. It answers how many of those
 /// behind it were done. Where there are any, all properties are moved into a map and back.
-pub fn edit_props(
+pub fn edit_props<C: Holds<Vec<u8>>>(
     alloc: Global,
-    props: &mut Props<Vec<u8>>,
+    props: &mut Props<C>,
     edit: Edit,
     behind: &EditRun<'_>,
 ) -> Result<usize, OnceEnd>

@@ -6,7 +6,7 @@ ghost use Rattle.edit_model.specs.Edits.{no_property, with_prop, without_prop};
 ghost use Rattle.prop_names.specs.Meaning.{key_of};
 ghost use Rattle.prop_values.specs.Kinds.{kind_number};
 
-use carrier_io::NoMemory;
+use carrier_io::{Blob, NoMemory};
 use prop_names::Key;
 use prop_values::{InsertEnd, Kind, Prop, Props};
 use std::alloc::Global;
@@ -23,8 +23,8 @@ struct Pair {
 
 /// Properties by key and kind.
 #[derive(Drop)]
-pub struct PropMap {
-    by_pair: BTreeMap<Pair, Prop<Vec<u8>>>,
+pub struct PropMap<B: Blob> {
+    by_pair: BTreeMap<Pair, Prop<B>>,
 }
 
 impl Model for Pair {
@@ -37,7 +37,7 @@ impl Model for Pair {
     ghost view = { λ s. with_pair (key_of s.key) (kind_number s.kind) };
 }
 
-impl Model for PropMap {
+impl<B: Blob> Model for PropMap<B> {
     ghost use Rattle.std.specs.Prelude.{◌≡◌, List, map};
     ghost use Rattle.std.specs.BTreeMap.{values};
     ghost use Rattle.carrier_model.specs.Values.{Prop as PlainProp, prop_cmp};
@@ -108,9 +108,9 @@ impl Ord for Pair {
     }
 }
 
-impl PropMap {
+impl<B: Blob> PropMap<B> {
     /// No property.
-    pub fn new(alloc: Global) -> PropMap
+    pub fn new(alloc: Global) -> PropMap<B>
         ensures { result ≡ [] }
     {
         PropMap {
@@ -119,7 +119,7 @@ impl PropMap {
     }
 
     /// Puts a property in its place, and in the place of the one that has its key and kind.
-    pub fn set(&mut self, alloc: Global, prop: Prop<Vec<u8>>) -> Result<(), NoMemory>
+    pub fn set(&mut self, alloc: Global, prop: Prop<B>) -> Result<(), NoMemory>
         ensures { OnOk result (with_prop prop self.old ≡ Ok self.new) }
     {
         let pair = Pair {
@@ -141,7 +141,7 @@ impl PropMap {
 }
 
 /// Moves the properties of a list into a map.
-pub fn mapped(alloc: Global, props: &mut Props<Vec<u8>>) -> Result<PropMap, NoMemory>
+pub fn mapped<B: Blob>(alloc: Global, props: &mut Props<B>) -> Result<PropMap<B>, NoMemory>
     ensures { IfOk result (λ map. (map ≡ props.old) × (props.new ≡ [])) }
 {
     // What a look-up promises says that the list is sorted.
@@ -154,7 +154,7 @@ pub fn mapped(alloc: Global, props: &mut Props<Vec<u8>>) -> Result<PropMap, NoMe
 }
 
 /// Moves the properties of a map behind those of an empty list.
-pub fn listed(map: PropMap, props: &mut Props<Vec<u8>>) -> Result<(), NoMemory>
+pub fn listed<B: Blob>(map: PropMap<B>, props: &mut Props<B>) -> Result<(), NoMemory>
     requires { props.old ≡ [] }
     ensures { OnOk result (props.new ≡ map) }
 {

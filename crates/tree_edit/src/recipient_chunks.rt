@@ -7,19 +7,19 @@ use crate::chunked_list::ChunkedList;
 use crate::editable::{Editable, edit_in_turn};
 use crate::editing::{OnceEnd, place_in};
 use crate::ends::EditWhy;
-use carrier_io::NoMemory;
+use carrier_io::{Holds, NoMemory};
 use edit_words::{Edit, EditRun};
 use msg_tree::Recipients;
 use prop_values::Props;
 use std::alloc::Global;
 
-impl Editable for Recipients<Vec<u8>> {
+impl<C: Holds<Vec<u8>>> Editable for Recipients<C> {
     ghost use Rattle.std.specs.Prelude.{List};
     ghost use Rattle.carrier_model.specs.Values.{Prop as PlainProp};
     ghost use Rattle.tree_edit.specs.ChunkedLists.{listed};
     ghost use Rattle.tree_edit.specs.declared.ends.EditWhy.TheVariants as whys;
 
-    type Form = ChunkedList<Props<Vec<u8>>>;
+    type Form = ChunkedList<Props<C>>;
 
     ghost Plain = { List (List PlainProp) };
 
@@ -80,9 +80,9 @@ impl Editable for Recipients<Vec<u8>> {
 
 /// Does an edit of the list, and those behind it up to the first that can't be done. It answers how many of those behind it
 /// were done. Where there are any, all recipients are moved into chunks and back.
-pub fn edit_recipients(
+pub fn edit_recipients<C: Holds<Vec<u8>>>(
     alloc: Global,
-    recipients: &mut Recipients<Vec<u8>>,
+    recipients: &mut Recipients<C>,
     edit: Edit,
     behind: &EditRun<'_>,
 ) -> Result<usize, OnceEnd>

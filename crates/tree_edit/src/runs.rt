@@ -6,6 +6,7 @@ ghost use Rattle.msg_tree.specs.Meaning.{tree_of};
 ghost use Rattle.tree_edit.specs.Changes.{ChangeOnePart, IsCauseOf};
 
 use crate::editing::{OnceEnd, edit_on};
+use carrier_io::Holds;
 use edit_words::{Edit, EditRun, Edits};
 use msg_tree::Message;
 use std::alloc::Global;
@@ -66,9 +67,9 @@ fn end_with(edit: &Edit, at: usize, end: usize) -> usize
 
 /// Does an edit of a run, and with it those behind it up to the end of the run, where they are many, up to the first that
 /// can't be done. It answers how many were done. The message is of no use where the first wasn't.
-pub fn edit_next(
+pub fn edit_next<C: Holds<Vec<u8>>>(
     alloc: Global,
-    message: &mut Message<Vec<u8>>,
+    message: &mut Message<C>,
     edits: &Edits<'_>,
     at: usize,
     end: usize,
@@ -76,8 +77,8 @@ pub fn edit_next(
     requires bounds { (at < end) × (end ≤ length edits.now) }
     requires run { ChangeOnePart (take (end - at) (drop at edits.now)) }
     ensures count { IfOk result (λ count. (0 < count) × (at + count ≤ end)) }
-    ensures ok { IfOk result (λ count. Makes (take count (drop at edits.now)) (tree_of (λ v. v.items) message.old) (tree_of (λ v. v.items) message.new)) }
-    ensures err { IfErr result (λ e. (edit : plain.Edit) → slice_get edits.now at ≡ Some edit → IsCauseOf (edited_once edit (tree_of (λ v. v.items) message.old)) e) }
+    ensures ok { IfOk result (λ count. Makes (take count (drop at edits.now)) (tree_of C.bytes message.old) (tree_of C.bytes message.new)) }
+    ensures err { IfErr result (λ e. (edit : plain.Edit) → slice_get edits.now at ≡ Some edit → IsCauseOf (edited_once edit (tree_of C.bytes message.old)) e) }
 {
     let edit = edits.read(alloc, at)?;
     let last = end_with(&edit, at, end);

@@ -7,7 +7,7 @@ ghost use Rattle.tree_edit.specs.Meaning.{IsEndOf};
 use crate::editing::OnceEnd;
 use crate::ends::{EditEnd, EditFault};
 use crate::runs::{edit_next, run_end};
-use carrier_io::Blob;
+use carrier_io::{Blob, Holds};
 use edit_words::Edits;
 use msg_tree::{Tree, copy_owned};
 use std::alloc::Global;
@@ -22,15 +22,16 @@ pub fn edited<B: Blob>(
     ensures done { IfOk result (λ t. edited_tree edits.now (plain_of tree.now) ≡ Ok (plain_of t)) }
     ensures refused { IfErr result (IsEndOf edits.now (plain_of tree.now)) }
 {
-    edit_owned(alloc, copy_owned(alloc, tree)?, edits)
+    edit_in_place(alloc, copy_owned(alloc, tree)?, edits)
 }
 
-/// The tree that edits make of one over owned bytes, which they change in place. It ends as `edited` does.
-pub fn edit_owned(
+/// The tree that edits make of one over blobs that owned bytes become, which they change in place. It ends as `edited`
+/// does.
+pub fn edit_in_place<C: Holds<Vec<u8>>>(
     alloc: Global,
-    tree: Tree<Vec<u8>>,
+    tree: Tree<C>,
     edits: &Edits<'_>,
-) -> Result<Tree<Vec<u8>>, EditEnd>
+) -> Result<Tree<C>, EditEnd>
     ensures done { IfOk result (λ t. edited_tree edits.now (plain_of tree) ≡ Ok (plain_of t)) }
     ensures refused { IfErr result (IsEndOf edits.now (plain_of tree)) }
 {

@@ -11,7 +11,7 @@ use Rattle.tree_edit.proofs.lists.set_prop.Goals as goal
 use Rattle.tree_edit.proofs.lists.set_prop.Goals.{in-Some, in_default, in-Ok, in-Err-NoMemory}
 
 pub unreachable-requires : goal.unreachable-requires
-unreachable-requires c =
+unreachable-requires g c =
     let keyed : key_of c.prop.inside.key ≡ c.args.prop.key = ap (λ (p : Prop). p.key) c.prop.view_is in
     let kinded : kind_number c.kind.result ≡ kind_of c.args.prop.value = c.kind.ensures ∙ ap (λ (p : Prop). kind_of p.value) c.prop.view_is in
     let found : c.match-find.props ≡ without_pair (key_of c.prop.inside.key) (kind_number c.kind.result) c.args.props.now = elim c.match-find.branch [
@@ -23,7 +23,7 @@ unreachable-requires c =
     none_left c.args.prop c.args.props.now (subst (λ l. Any (λ q. prop_cmp q c.args.prop ≡ Equal) l) left refused.1)
 
 pub returns : goal.returns
-returns c =
+returns g c =
     let keyed : key_of c.prop.inside.key ≡ c.args.prop.key = ap (λ (p : Prop). p.key) c.prop.view_is in
     let kinded : kind_number c.kind.result ≡ kind_of c.args.prop.value = c.kind.ensures ∙ ap (λ (p : Prop). kind_of p.value) c.prop.view_is in
     let found : c.match-find.props ≡ without_pair (key_of c.prop.inside.key) (kind_number c.kind.result) c.args.props.now = elim c.match-find.branch [

@@ -5,7 +5,7 @@ use Rattle.tree_edit.proofs.Mapped.{put_last, none_equal}
 use Rattle.tree_edit.proofs.prop_map.listed.Goals as goal
 
 pub loop-prop-preserved : goal.loop-prop-preserved
-loop-prop-preserved c =
+loop-prop-preserved g c =
     let p = c.in-Some.prop in
     let rest = c.next.new.self in
     let whole : c.loop-prop.props ++ p ∷ rest ≡ c.args.map = ap (λ l. c.loop-prop.props ++ l) (sym c.in-Some.ensures.steps) ∙ c.loop-prop.invariant in
@@ -13,7 +13,7 @@ loop-prop-preserved c =
     ap (λ l. l ++ rest) (c.in-Ok.ensures.ok ∙ put_last c.loop-prop.props rest p sorted) ∙ (append_assoc c.loop-prop.props (p ∷ []) rest ∙ whole)
 
 pub unreachable-requires : goal.unreachable-requires
-unreachable-requires c =
+unreachable-requires g c =
     let p = c.in-Some.prop in
     let rest = c.next.new.self in
     let whole : c.loop-prop.props ++ p ∷ rest ≡ c.args.map = ap (λ l. c.loop-prop.props ++ l) (sym c.in-Some.ensures.steps) ∙ c.loop-prop.invariant in

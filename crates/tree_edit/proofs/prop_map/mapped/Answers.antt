@@ -5,7 +5,7 @@ use Rattle.tree_edit.proofs.Mapped.{last_out, set_front}
 use Rattle.tree_edit.proofs.prop_map.mapped.Goals as goal
 
 pub loop-alloc-preserved : goal.loop-alloc-preserved
-loop-alloc-preserved c =
+loop-alloc-preserved g c =
     let p = c.remove.result in
     let end : c.len-in-loop-alloc.result - 1 + 1 ≡ length c.loop-alloc.props = omega arith in
     let whole : c.remove.new.self ++ p ∷ c.loop-alloc.map ≡ c.args.props.now = ap (λ l. l ++ p ∷ c.loop-alloc.map) c.remove.ensures.left ∙ (last_out c.loop-alloc.props c.loop-alloc.map (c.len-in-loop-alloc.result - 1) p end c.remove.ensures.taken ∙ c.loop-alloc.invariant) in

@@ -11,14 +11,14 @@ use Rattle.tree_edit.proofs.Composed.{run_makes, run_all, once_alone}
 use Rattle.tree_edit.proofs.runs.edit_next.Goals as goal
 
 pub returns-in_err-count-clause-err : goal.returns-in_err-count-clause-err
-returns-in_err-count-clause-err c =
+returns-in_err-count-clause-err g c =
     let p = err_from_is_err_and c.from_residual-in_err-count.result c.from_residual-in_err-count.ensures.1 in
     rw (p.1, p.2) (λ edit at.
     let same : edit ≡ edit_of c.in_ok-edit.edit = let h : Some edit ≡ Some (edit_of c.in_ok-edit.edit) = sym at ∙ c.in_ok-edit.ensures in cc in
-    rw same (subst (λ r. IsCauseOf r c.in_err-count.field-0.0) (once_alone (edit_of c.in_ok-edit.edit) (tree_of (λ v. v.items) c.args.message.now)) c.in_err-count.ensures.err))
+    rw same (subst (λ r. IsCauseOf r c.in_err-count.field-0.0) (once_alone (edit_of c.in_ok-edit.edit) (tree_of g.C.Blob.bytes c.args.message.now)) c.in_err-count.ensures.err))
 
 pub returns-clause-ok : goal.returns-clause-ok
-returns-clause-ok c =
+returns-clause-ok g c =
     let e = edit_of c.in_ok-edit.edit in
     let n = c.in_ok-count.count in
     let at = c.args.at in
@@ -29,4 +29,4 @@ returns-clause-ok c =
     let more : take (n + 1) (drop at es) ≡ e ∷ take n run = ap (take (n + 1)) (drop_at es at e c.in_ok-edit.ensures) ∙ (ap (λ m. take m (e ∷ drop (at + 1) es)) one ∙ ap (λ l. e ∷ l) (sym front)) in
     let bound : at + 1 + length run ≤ c.args.end = omega (arith, c.behind.ensures.bound, c.end_with-last.ensures.1) in
     let all = run_all es run at c.args.end e c.in_ok-edit.ensures c.requires.run bound c.behind.ensures.run in
-    rw more (run_makes (path_of e) (part_of e) e (take n run) (tree_of (λ v. v.items) c.args.message.now) (tree_of (λ v. v.items) c.edit_on.new.message) (refl, refl) (all_front (IsOf (path_of e) (part_of e)) n run all) c.in_ok-count.ensures.ok)
+    rw more (run_makes (path_of e) (part_of e) e (take n run) (tree_of g.C.Blob.bytes c.args.message.now) (tree_of g.C.Blob.bytes c.edit_on.new.message) (refl, refl) (all_front (IsOf (path_of e) (part_of e)) n run all) c.in_ok-count.ensures.ok)

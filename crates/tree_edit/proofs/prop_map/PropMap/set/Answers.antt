@@ -8,14 +8,14 @@ use Rattle.tree_edit.proofs.Mapped.{after_set, pairing, set_sorted, vals_are}
 use Rattle.tree_edit.proofs.prop_map.PropMap.set.Goals as goal
 
 pub invariant_of-self-2 : goal.invariant_of-self-2
-invariant_of-self-2 c =
+invariant_of-self-2 g c =
     let keyed = c.in_ok-copy.ensures ∙ ap (λ (p : Prop). p.key) c.prop.view_is in
     let kinded = c.kind.ensures ∙ ap (λ (p : Prop). kind_of p.value) c.prop.view_is in
     let own : with_pair (key_of c.in_ok-copy.field-0) (kind_number c.kind.result) ≡ with_pair c.args.prop.key (kind_of c.args.prop.value) = ap (λ k. with_pair k (kind_number c.kind.result)) keyed ∙ ap (with_pair c.args.prop.key) kinded in
     pairing c.insert.new.self.entries _ (after_set c.self.inside.by_pair.entries c.insert.new.self.entries c.args.prop _ c.self.invariant own c.in_ok-insert.ensures.entries) (set_sorted _ c.args.prop c.self.invariant.1)
 
 pub returns : goal.returns
-returns c =
+returns g c =
     let keyed = c.in_ok-copy.ensures ∙ ap (λ (p : Prop). p.key) c.prop.view_is in
     let kinded = c.kind.ensures ∙ ap (λ (p : Prop). kind_of p.value) c.prop.view_is in
     let own : with_pair (key_of c.in_ok-copy.field-0) (kind_number c.kind.result) ≡ with_pair c.args.prop.key (kind_of c.args.prop.value) = ap (λ k. with_pair k (kind_number c.kind.result)) keyed ∙ ap (with_pair c.args.prop.key) kinded in

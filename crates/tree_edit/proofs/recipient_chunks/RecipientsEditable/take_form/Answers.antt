@@ -1,10 +1,10 @@
 use Rattle.std.proofs.Common.{◌∙◌, ◌++◌, ◌+◌, ◌∷◌, [], ap, sym, drop, length}
 use Rattle.std.proofs.lemmas.List.{length-set}
 use Rattle.tree_edit.proofs.ChunkLists.{next_out}
-use Rattle.tree_edit.proofs.recipient_chunks.RecipientsVecU8Editable.take_form.Goals as goal
+use Rattle.tree_edit.proofs.recipient_chunks.RecipientsEditable.take_form.Goals as goal
 
 pub loop-k-preserved : goal.loop-k-preserved
-loop-k-preserved c =
+loop-k-preserved g c =
     let l = c.loop-k.self in
     let out = next_out l c.args.self.now c.loop-k.k c.replace.result c.new.result c.replace.ensures.taken c.loop-k.invariant.left in
     record {
