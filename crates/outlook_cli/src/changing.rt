@@ -1,5 +1,5 @@
 //! Messages that are changed, and written as .msg files.
-ghost use Rattle.std.specs.Prelude.{◌≡◌, ◌≤◌, ℕ, List, length};
+ghost use Rattle.std.specs.Prelude.{◌≡◌, ◌≤◌, ℕ, List, length, IfOk};
 ghost use Rattle.carrier_io.specs.Causes.{Rose};
 ghost use Rattle.carrier_model.specs.Bytes.{MOST_BYTES};
 ghost use Rattle.job_model.specs.Changes.{changed};
@@ -8,13 +8,13 @@ ghost use Rattle.msg_tree.specs.Whole.{plain_of};
 ghost use Rattle.outlook_cli.specs.Outcome.{PutsChange, PutsFile, TellsChange, WritesNothing, status_of_text};
 
 use crate::telling::stopped;
-use carrier_io::{Blob, Sink};
+use carrier_io::{Blob, Holds, NoMemory, Sink};
 use edit_words::Edits;
 use msg_tree::{Tree, copy_owned};
 use outlook_status::Status;
 use std::alloc::Global;
 use translate_core::{Input, PutEnd, accept, write_msg};
-use tree_edit::{EditEnd, edit_owned};
+use tree_edit::{EditEnd, edit_in_place};
 use tree_text8::{TextEnd, is_unicode, unicode_of};
 
 /// Writes the .msg file of a message. [MS-OXMSG 2.3]
@@ -63,11 +63,18 @@ fn write_unicode<B: Blob, O: Sink>(alloc: Global, tree: Tree<B>, output: &mut O)
     }
 }
 
-/// Writes the file of the message that edits make. They are made on a copy, and what was read is gone by then.
-fn write_edited<B: Blob, O: Sink>(
+/// A copy of a message over owned bytes. The message itself goes with the call.
+fn copied<B: Blob>(alloc: Global, tree: Tree<B>) -> Result<Tree<Vec<u8>>, NoMemory>
+    ensures { IfOk result (λ owned. plain_of owned ≡ plain_of tree) }
+{
+    copy_owned(alloc, &tree)
+}
+
+/// Writes the file of the message that edits make. They change it in place.
+fn write_edited<C: Holds<Vec<u8>>, O: Sink>(
     alloc: Global,
     edits: &Edits<'_>,
-    tree: Tree<B>,
+    tree: Tree<C>,
     output: &mut O,
 ) -> Status
     ensures puts { (bytes : List ℕ) → PutsChange (changed (plain_edited edits.now) (plain_of tree)) bytes (O.held output.old) (O.held output.new) result }
@@ -76,12 +83,7 @@ fn write_edited<B: Blob, O: Sink>(
     ensures no_usage { result ≡ Status.Usage → ⊥ }
     ensures no_read_fault { result ≡ Status.ReadFault → ⊥ }
 {
-    let owned = copy_owned(alloc, &tree);
-    drop(tree);
-    let Ok(owned) = owned else {
-        return Status::NoMemory;
-    };
-    match edit_owned(alloc, owned, edits) {
+    match edit_in_place(alloc, tree, edits) {
         Ok(changed) => write_file(alloc, &changed, output),
         Err(EditEnd::Fault(fault)) => Status::Edit(fault),
         Err(EditEnd::NoMemory) => Status::NoMemory,
@@ -104,7 +106,8 @@ pub fn unicode_bytes<O: Sink>(alloc: Global, bytes: &[u8], output: &mut O) -> St
     }
 }
 
-/// Writes the .msg file of the message that edits make of the one that bytes mean.
+/// Writes the .msg file of the message that edits make of the one that bytes mean. Of a .msg file a copy is edited, since
+/// its values are views of it, and owned bytes become none.
 pub fn edit_bytes<O: Sink>(alloc: Global, edits: &Edits<'_>, bytes: &[u8], output: &mut O) -> Status
     requires { length bytes.now ≤ MOST_BYTES }
     ensures told { TellsChange (plain_edited edits.now) bytes.now (O.held output.old) (O.held output.new) result }
@@ -115,7 +118,10 @@ pub fn edit_bytes<O: Sink>(alloc: Global, edits: &Edits<'_>, bytes: &[u8], outpu
 {
     match accept(alloc, bytes) {
         Err(stop) => stopped(stop),
-        Ok(Input::Msg(accepted)) => write_edited(alloc, edits, accepted.tree, output),
+        Ok(Input::Msg(accepted)) => match copied(alloc, accepted.tree) {
+            Ok(owned) => write_edited(alloc, edits, owned, output),
+            Err(NoMemory) => Status::NoMemory,
+        },
         Ok(Input::Tnef(accepted)) => write_edited(alloc, edits, accepted.tree, output),
     }
 }
