@@ -9,7 +9,7 @@ ghost use Rattle.tree_edit.specs.Changes.{IsCauseOf, in_turn, on_props};
 use crate::editable::{Editable, edit_in_turn};
 use crate::editing::OnceEnd;
 use crate::ends::EditWhy;
-use crate::prop_map::{PropMap, listed, mapped};
+use crate::prop_changes::PropChanges;
 use carrier_io::NoMemory;
 use edit_words::{Edit, EditRun};
 use prop_names::Key;
@@ -49,13 +49,13 @@ impl Editable for Props<Vec<u8>> {
     ghost use Rattle.carrier_model.specs.Values.{Prop as PlainProp};
     ghost use Rattle.tree_edit.specs.declared.ends.EditWhy.TheVariants as whys;
 
-    type Form = PropMap;
+    type Form = PropChanges<Vec<u8>>;
 
     ghost Plain = { List PlainProp };
 
     ghost plain = { λ props. props };
 
-    ghost held = { λ map. map };
+    ghost held = { λ changes. changes };
 
     ghost edited = { on_props };
 
@@ -75,7 +75,7 @@ impl Editable for Props<Vec<u8>> {
     }
 
     fn take_form(&mut self, alloc: Global) -> Result<Self::Form, NoMemory> {
-        mapped(alloc, self)
+        Ok(PropChanges::take_from(alloc, self))
     }
 
     fn edit_form(form: &mut Self::Form, alloc: Global, edit: Edit) -> Result<bool, NoMemory> {
@@ -90,8 +90,8 @@ impl Editable for Props<Vec<u8>> {
     }
 
     fn put_form(&mut self, alloc: Global, form: Self::Form) -> Result<(), NoMemory> {
-        *self = Props::new(alloc);
-        listed(form, self)
+        *self = form.into_props(alloc)?;
+        Ok(())
     }
 }
 
