@@ -1,11 +1,11 @@
 -- Changes laid over a property list.
-use Rattle.std.proofs.Common.{◌≡◌, ℕ, zero, suc, ◌+◌, ◌<◌, length, get_or, List, [], ◌∷◌, ◌++◌, drop, map, refl, ap, sym, subst, ◌∙◌, arith}
-use Rattle.std.specs.Prelude.{true, false, not, ◌||◌, Bool, Any, Option, Some, None, Ok, Err, is_some}
+use Rattle.std.proofs.Common.{◌≡◌, ℕ, zero, suc, ◌+◌, ◌<◌, length, get_or, List, [], ◌∷◌, ◌++◌, drop, map, refl, ap, sym, subst, ◌∙◌, arith, append_assoc}
+use Rattle.std.specs.Prelude.{true, false, not, ◌||◌, Bool, Any, Option, Some, None, Ok, is_some}
 use Rattle.std.specs.BTreeMap.{insert_entry, is_at}
 use Rattle.std.specs.List.{AllByRecursion, list_any}
 use Rattle.std.specs.List.Sorted.{IsStrictlySortedBy}
 use Rattle.std.specs.Map.{lookup}
-use Rattle.std.specs.Option.{option_to_list}
+use Rattle.std.specs.Option.{MatchOption, option_to_list}
 use Rattle.std.specs.Ordering.{ordering_reverse}
 use Rattle.std.specs.declared.cmp.Ordering.{Ordering}
 use Rattle.std.specs.declared.cmp.Ordering.TheVariants.{Less, Equal, Greater}
@@ -16,7 +16,7 @@ use Rattle.carrier_model.specs.Values.{Prop, kind_of, prop_cmp, with_pair}
 use Rattle.carrier_model.proofs.OrderLaws.{props_exactly}
 use Rattle.carrier_model.proofs.Orders.{prop_total}
 use Rattle.carrier_model.proofs.SortedLists.{tail_sorted, with_element_sorted}
-use Rattle.edit_model.specs.Edits.{has_pair, no_property, with_prop, without_pair, without_prop}
+use Rattle.edit_model.specs.Edits.{has_pair, with_prop, without_pair, without_prop}
 use Rattle.tree_edit.specs.PropChanges.{Change, changed, with_changes, IsChange, AreChanges, first_put, first_order}
 use Rattle.tree_edit.proofs.Found.{none_left}
 
@@ -242,7 +242,7 @@ any_other q r o (y ∷ l) own s not_it = by (prop_cmp y r) refl (any_other q r o
     by Greater e rest = ap any (changed_before r o (y ∷ l) own (below_all r y l s e)) ∙ put o own
 
 -- what changes say of a key and a kind, where the list says the second
-abbrev said : Option (Option Prop) → Bool → Bool
+abbrev pub said : Option (Option Prop) → Bool → Bool
 said None b = b
 said (Some o) b = is_some o
 
@@ -304,6 +304,46 @@ pub at_end : (cs : List Change) → AreChanges cs → AreOrdered cs → with_cha
 at_end [] own order = refl
 at_end (c ∷ cs) own order = first_laid c cs [] own order (λ i j d lt within. absurd (omega (arith, within))) tt
 
+-- so far m was put down, and with what is left it makes v
+pub step_less : (m v : List Prop) (cs : List Change) (n : Option Prop) (p : Prop) (l : List Prop) → m ++ with_changes cs (option_to_list n ++ l) ≡ v → n ≡ Some p → AreChanges cs → AreOrdered cs → IsStrictlySorted prop_cmp (option_to_list n ++ l) → first_order cs p ≡ Less → m ++ (first_put cs ++ with_changes (drop 1 cs) (p ∷ l)) ≡ v
+step_less m v cs n p l whole is own order s e = ap (λ x. m ++ x) (sym (when_less cs p l own order (subst (λ n. IsStrictlySorted prop_cmp (option_to_list n ++ l)) is s) e)) ∙ (ap (λ n. m ++ with_changes cs (option_to_list n ++ l)) (sym is) ∙ whole)
+
+pub step_equal : (m v : List Prop) (cs : List Change) (n : Option Prop) (p : Prop) (l : List Prop) → m ++ with_changes cs (option_to_list n ++ l) ≡ v → n ≡ Some p → AreChanges cs → AreOrdered cs → first_order cs p ≡ Equal → m ++ with_changes cs l ≡ v
+step_equal m v cs n p l whole is own order e = ap (λ x. m ++ x) (sym (when_equal cs p l own order e)) ∙ (ap (λ n. m ++ with_changes cs (option_to_list n ++ l)) (sym is) ∙ whole)
+
+pub step_greater : (m v : List Prop) (cs : List Change) (n : Option Prop) (p : Prop) (l : List Prop) → m ++ with_changes cs (option_to_list n ++ l) ≡ v → n ≡ Some p → AreChanges cs → AreOrdered cs → first_order cs p ≡ Greater → m ++ p ∷ with_changes cs l ≡ v
+step_greater m v cs n p l whole is own order e = ap (λ x. m ++ x) (sym (when_greater cs p l own order e)) ∙ (ap (λ n. m ++ with_changes cs (option_to_list n ++ l)) (sym is) ∙ whole)
+
+pub step_end : (m v : List Prop) (cs : List Change) → m ++ with_changes cs [] ≡ v → AreChanges cs → AreOrdered cs → m ++ (first_put cs ++ with_changes (drop 1 cs) []) ≡ v
+step_end m v cs whole own order = ap (λ x. m ++ x) (sym (at_end cs own order)) ∙ whole
+
+pub after_put : (m f k v : List Prop) (cs ds : List Change) (l : List Prop) → k ≡ m ++ f → ds ≡ cs → m ++ (f ++ with_changes cs l) ≡ v → k ++ with_changes ds l ≡ v
+after_put m f k v cs ds l put same whole = ap (λ x. x ++ with_changes ds l) put ∙ (ap (λ d. (m ++ f) ++ with_changes d l) same ∙ (append_assoc m f (with_changes cs l) ∙ whole))
+
+pub named_sorted : (n : Option Prop) (p : Prop) (l : List Prop) → n ≡ Some p → IsStrictlySorted prop_cmp (option_to_list n ++ l) → IsStrictlySorted prop_cmp (p ∷ l)
+named_sorted n p l is s = subst (λ n. IsStrictlySorted prop_cmp (option_to_list n ++ l)) is s
+
+-- what is left of a sorted list behind its first
+pub left_sorted : (n : Option Prop) (p : Prop) (l m : List Prop) → n ≡ Some p → l ≡ m → IsStrictlySorted prop_cmp (option_to_list n ++ l) → IsStrictlySorted prop_cmp m
+left_sorted n p l m is same s = subst (IsStrictlySorted prop_cmp) same (tail_sorted prop_total p l (named_sorted n p l is s))
+
+none_in : (l : List Prop) → length l ≡ 0 → l ≡ []
+none_in [] e = refl
+none_in (p ∷ l) e = absurd cc
+
+-- an iterator's count stays that of its items
+pub counted_on : (r : Option Prop) (l m : List Prop) (a b : ℕ) → l ≡ option_to_list r ++ m → b + length (option_to_list r) ≡ a → a ≡ length l → b ≡ length m
+counted_on None l m a b e len count = let same : length l ≡ length m = ap length e in omega (arith, len, count, same)
+counted_on (Some p) l m a b e len count = let same : length l ≡ suc (length m) = ap length e in omega (arith, len, count, same)
+
+-- an iterator that gives none has none left
+pub spent : (r : Option Prop) (a b : ℕ) (m : List Prop) (R : Prop → Type 0) → MatchOption r ((a ≡ 0) × (b ≡ 0)) R → b ≡ length m → r ≡ None → m ≡ []
+spent None a b m R h count e = none_in m (sym count ∙ h.1)
+spent (Some p) a b m R h count e = absurd cc
+
+pub at_last : (m v : List Prop) (cs : List Change) (n : Option Prop) (l : List Prop) → m ++ with_changes cs (option_to_list n ++ l) ≡ v → n ≡ None → l ≡ [] → m ++ with_changes cs [] ≡ v
+at_last m v cs n l whole is ended = sym (ap (λ n. m ++ with_changes cs (option_to_list n ++ l)) is ∙ ap (λ l. m ++ with_changes cs l) ended) ∙ whole
+
 pub rest_changes : (cs : List Change) → AreChanges cs → AreChanges (drop 1 cs)
 rest_changes [] own = tt
 rest_changes (c ∷ cs) own = own.1
@@ -348,6 +388,3 @@ taken_more cs ds l key given kind own s keyed is = (
   subst AreChanges (sym is) (insert_changes cs (with_pair given kind) None own tt),
   λ there. rw there (ap Ok (ap (λ k. without_pair k kind (with_changes cs l)) (sym keyed) ∙ (one_more cs l (with_pair given kind) None own tt s ∙ ap (λ c. with_changes c l) (sym is)))),
 )
-
-pub none_taken : (key : Key) (kind : ℕ) (l : List Prop) → list_any (has_pair key kind) l ≡ false → without_prop key kind l ≡ Err no_property
-none_taken key kind l gone = rw gone refl

@@ -96,7 +96,7 @@ impl Editable for Props<Vec<u8>> {
 }
 
 /// Does an edit of properties in a list, and those behind it up to the first that can't be done. It answers how many of those
-/// behind it were done. Where there are any, all properties are moved into a map and back.
+/// behind it were done. Where there are any, what they change is kept beside the list and laid over it once.
 pub fn edit_props(
     alloc: Global,
     props: &mut Props<Vec<u8>>,

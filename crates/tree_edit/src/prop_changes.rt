@@ -7,7 +7,7 @@ ghost use Rattle.carrier_model.specs.Values.{Prop as PlainProp, kind_of, prop_cm
 ghost use Rattle.edit_model.specs.Edits.{has_pair, no_property, with_prop, without_prop};
 ghost use Rattle.prop_names.specs.Meaning.{key_of};
 ghost use Rattle.prop_values.specs.Kinds.{kind_number};
-ghost use Rattle.tree_edit.specs.PropChanges.{first_order, first_put};
+ghost use Rattle.tree_edit.specs.PropChanges.{AreChanges, first_order, first_put, with_changes};
 
 use carrier_io::{Blob, NoMemory};
 use prop_names::Key;
@@ -188,16 +188,17 @@ impl<C: Blob> PropChanges<C> {
                     put_first(&mut merged, &mut changes)?;
                     next = Some(prop);
                 }
-                Ordering::Equal => next = items.next(),
+                Ordering::Equal => {
+                    drop(prop);
+                    next = items.next();
+                }
                 Ordering::Greater => {
                     put_last(&mut merged, prop)?;
                     next = items.next();
                 }
             }
         }
-        while !changes.is_empty() {
-            put_first(&mut merged, &mut changes)?;
-        }
+        put_all(&mut merged, changes)?;
         Ok(merged)
     }
 }
@@ -232,7 +233,7 @@ fn put_first<C: Blob>(
     list: &mut Props<C>,
     changes: &mut BTreeMap<Pair, Option<Prop<C>>>,
 ) -> Result<(), NoMemory>
-    requires { (rest : List PlainProp) × IsStrictlySorted prop_cmp (list.old ++ first_put changes.old.entries ++ rest) }
+    requires { (rest : List PlainProp) × IsStrictlySorted prop_cmp (list.old ++ (first_put changes.old.entries ++ rest)) }
     ensures put { OnOk result (list.new ≡ list.old ++ first_put changes.old.entries) }
     ensures left { OnOk result (changes.new.entries ≡ behind 1 changes.old.entries) }
     ensures ordered { IsOrdered prop_cmp changes.new }
@@ -244,4 +245,20 @@ fn put_first<C: Blob>(
         },
         None => Ok(()),
     }
+}
+
+/// Puts the properties of all changes behind those of a list.
+fn put_all<C: Blob>(
+    list: &mut Props<C>,
+    mut changes: BTreeMap<Pair, Option<Prop<C>>>,
+) -> Result<(), NoMemory>
+    requires own { AreChanges changes.entries }
+    requires ordered { IsOrdered prop_cmp changes }
+    requires sorted { IsStrictlySorted prop_cmp (list.old ++ with_changes changes.entries []) }
+    ensures { OnOk result (list.new ≡ list.old ++ with_changes changes.entries []) }
+{
+    while !changes.is_empty() {
+        put_first(list, &mut changes)?;
+    }
+    Ok(())
 }

@@ -8,4 +8,4 @@ use Rattle.tree_edit.proofs.prop_changes.put_first.Goals as goal
 pub put_last-requires : goal.put_last-requires
 put_last-requires g c =
     let first : first_put c.args.changes.now.entries ≡ c.in-Some-change.prop ∷ [] = ap first_put c.in-Some.ensures.removal ∙ ap option_to_list c.in-Some-change.is in
-    (c.requires.0, subst (λ f. IsStrictlySorted prop_cmp (c.args.list.now ++ f ++ c.requires.0)) first c.requires.1)
+    (c.requires.0, subst (λ f. IsStrictlySorted prop_cmp (c.args.list.now ++ (f ++ c.requires.0))) first c.requires.1)
