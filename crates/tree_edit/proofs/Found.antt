@@ -1,6 +1,6 @@
 -- A property list with the property of a key and a kind, or without one.
 use Rattle.std.proofs.Common.{◌≡◌, ℕ, zero, suc, get_or, List, [], ◌∷◌, refl, ap, sym, subst, ◌∙◌, arith}
-use Rattle.std.specs.Prelude.{Bool, true, false, not, ◌||◌, cond, All, Any, Contains, Some, slice_get}
+use Rattle.std.specs.Prelude.{Bool, true, false, not, ◌||◌, cond, All, Any, Contains, Option, Some, None, IfSome, IfNone, is_some, slice_get}
 use Rattle.std.specs.List.{list_any, remove}
 use Rattle.std.specs.declared.cmp.Ordering.{Ordering}
 use Rattle.std.specs.declared.cmp.Ordering.TheVariants.{Less, Equal, Greater}
@@ -51,6 +51,11 @@ found_any key kind (q ∷ l) (suc k) p at h = or_true (has_pair key kind q) (fou
     or_true : (b : Bool) → list_any (has_pair key kind) l ≡ true → (b || list_any (has_pair key kind) l) ≡ true
     or_true true e = refl
     or_true false e = e
+
+-- what a look-up answers
+pub told : (r : Option ℕ) (key : Key) (kind : ℕ) (l : List Prop) → IfSome r (λ k. (p : Prop) × (slice_get l k ≡ Some p) × HasPair key kind p) → IfNone r (All (λ p. HasPair key kind p → ⊥) l) → is_some r ≡ list_any (has_pair key kind) l
+told None key kind l some none = sym (absent_none key kind l none)
+told (Some k) key kind l (p, at, pair) none = sym (found_any key kind l k p at pair)
 
 pub found_removed : (key : Key) (kind : ℕ) (l : List Prop) (k : ℕ) (p : Prop) → IsStrictlySorted prop_cmp l → slice_get l k ≡ Some p → HasPair key kind p → without_pair key kind l ≡ remove l k
 found_removed key kind [] k p sorted at h = absurd cc

@@ -2,7 +2,7 @@ mod ChunkLists
 mod Composed
 mod Found
 mod Made
-mod Mapped
+mod PropChanges
 mod Once
 mod Steps
 mod Stores

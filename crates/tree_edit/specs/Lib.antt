@@ -1,4 +1,4 @@
 pub mod Changes
 pub mod ChunkedLists
-pub mod Mapped
+pub mod PropChanges
 pub mod Meaning

@@ -16,7 +16,7 @@ pub trait Editable {
     ghost use Rattle.tree_edit.specs.Meaning.{why_of};
     ghost use Rattle.tree_edit.specs.declared.ends.EditWhy.{EditWhy};
 
-    /// Its elements in the form in which each of many edits takes few steps.
+    /// The list in the form in which each of many edits takes few steps.
     type Form: Drop;
 
     /// What the list is as plain data.
@@ -78,7 +78,7 @@ fn edit_form_in_turn<L: Editable>(
 }
 
 /// Does an edit of a list, and those behind it up to the first that can't be done. It answers how many of those behind it
-/// were done. Where there are any, all elements are moved into the list's form and back.
+/// were done. Where there are any, they are done in the list's form, which is made once and put back once.
 pub fn edit_in_turn<L: Editable>(
     alloc: Global,
     list: &mut L,

@@ -7,7 +7,7 @@ mod editable;
 mod editing;
 mod ends;
 mod lists;
-mod prop_map;
+mod prop_changes;
 mod recipient_chunks;
 mod runs;
 mod whole;

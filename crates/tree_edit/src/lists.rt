@@ -9,7 +9,7 @@ ghost use Rattle.tree_edit.specs.Changes.{IsCauseOf, in_turn, on_props};
 use crate::editable::{Editable, edit_in_turn};
 use crate::editing::OnceEnd;
 use crate::ends::EditWhy;
-use crate::prop_map::{PropMap, listed, mapped};
+use crate::prop_changes::PropChanges;
 use carrier_io::{Blob, Holds, NoMemory};
 use edit_words::{Edit, EditRun};
 use prop_names::Key;
@@ -49,13 +49,13 @@ impl<C: Holds<Vec<u8>>> Editable for Props<C> {
     ghost use Rattle.carrier_model.specs.Values.{Prop as PlainProp};
     ghost use Rattle.tree_edit.specs.declared.ends.EditWhy.TheVariants as whys;
 
-    type Form = PropMap<C>;
+    type Form = PropChanges<C>;
 
     ghost Plain = { List PlainProp };
 
     ghost plain = { λ props. props };
 
-    ghost held = { λ map. map };
+    ghost held = { λ changes. changes };
 
     ghost edited = { on_props };
 
@@ -75,7 +75,7 @@ impl<C: Holds<Vec<u8>>> Editable for Props<C> {
     }
 
     fn take_form(&mut self, alloc: Global) -> Result<Self::Form, NoMemory> {
-        mapped(alloc, self)
+        Ok(PropChanges::take_from(alloc, self))
     }
 
     fn edit_form(form: &mut Self::Form, alloc: Global, edit: Edit) -> Result<bool, NoMemory> {
@@ -90,13 +90,13 @@ impl<C: Holds<Vec<u8>>> Editable for Props<C> {
     }
 
     fn put_form(&mut self, alloc: Global, form: Self::Form) -> Result<(), NoMemory> {
-        *self = Props::new(alloc);
-        listed(form, self)
+        *self = form.into_props(alloc)?;
+        Ok(())
     }
 }
 
 /// Does an edit of properties in a list, and those behind it up to the first that can't be done. It answers how many of those
-/// behind it were done. Where there are any, all properties are moved into a map and back.
+/// behind it were done. Where there are any, what they change is kept beside the list and laid over it once.
 pub fn edit_props<C: Holds<Vec<u8>>>(
     alloc: Global,
     props: &mut Props<C>,
