@@ -29,7 +29,7 @@ pub(crate) struct Entry {
     pub(crate) content: Content,
 }
 
-/// The same by the number of these names and the last of them.
+/// A storage or a stream, by the number of these names and the last of them.
 #[derive(Drop)]
 pub(crate) struct Placed {
     pub(crate) level: usize,
