@@ -1,5 +1,5 @@
 //! Messages that are changed, and written as .msg files.
-ghost use Rattle.std.specs.Prelude.{◌≡◌, ◌≤◌, ℕ, List, length, IfOk};
+ghost use Rattle.std.specs.Prelude.{◌≡◌, ◌≤◌, ℕ, List, length};
 ghost use Rattle.carrier_io.specs.Causes.{Rose};
 ghost use Rattle.carrier_model.specs.Bytes.{MOST_BYTES};
 ghost use Rattle.job_model.specs.Changes.{changed};
@@ -63,13 +63,6 @@ fn write_unicode<B: Blob, O: Sink>(alloc: Global, tree: Tree<B>, output: &mut O)
     }
 }
 
-/// A copy of a message over owned bytes. The message itself goes with the call.
-fn copied<B: Blob>(alloc: Global, tree: Tree<B>) -> Result<Tree<Vec<u8>>, NoMemory>
-    ensures { IfOk result (λ owned. plain_of owned ≡ plain_of tree) }
-{
-    copy_owned(alloc, &tree)
-}
-
 /// Writes the file of the message that edits make. They change it in place.
 fn write_edited<C: Holds<Vec<u8>>, O: Sink>(
     alloc: Global,
@@ -87,6 +80,27 @@ fn write_edited<C: Holds<Vec<u8>>, O: Sink>(
         Ok(changed) => write_file(alloc, &changed, output),
         Err(EditEnd::Fault(fault)) => Status::Edit(fault),
         Err(EditEnd::NoMemory) => Status::NoMemory,
+    }
+}
+
+/// Writes the file of the message that edits make on a copy. What was read is gone by then.
+fn write_edited_copy<B: Blob, O: Sink>(
+    alloc: Global,
+    edits: &Edits<'_>,
+    tree: Tree<B>,
+    output: &mut O,
+) -> Status
+    ensures puts { (bytes : List ℕ) → PutsChange (changed (plain_edited edits.now) (plain_of tree)) bytes (O.held output.old) (O.held output.new) result }
+    ensures nothing { WritesNothing result output.old output.new }
+    ensures fault { result ≡ Status.WriteFault → Rose (O.faults output.old) (O.faults output.new) }
+    ensures no_usage { result ≡ Status.Usage → ⊥ }
+    ensures no_read_fault { result ≡ Status.ReadFault → ⊥ }
+{
+    let copy = copy_owned(alloc, &tree);
+    drop(tree);
+    match copy {
+        Ok(copy) => write_edited(alloc, edits, copy, output),
+        Err(NoMemory) => Status::NoMemory,
     }
 }
 
@@ -118,10 +132,7 @@ pub fn edit_bytes<O: Sink>(alloc: Global, edits: &Edits<'_>, bytes: &[u8], outpu
 {
     match accept(alloc, bytes) {
         Err(stop) => stopped(stop),
-        Ok(Input::Msg(accepted)) => match copied(alloc, accepted.tree) {
-            Ok(owned) => write_edited(alloc, edits, owned, output),
-            Err(NoMemory) => Status::NoMemory,
-        },
+        Ok(Input::Msg(accepted)) => write_edited_copy(alloc, edits, accepted.tree, output),
         Ok(Input::Tnef(accepted)) => write_edited(alloc, edits, accepted.tree, output),
     }
 }

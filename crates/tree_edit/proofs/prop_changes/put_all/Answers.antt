@@ -1,4 +1,4 @@
-use Rattle.std.proofs.Common.{◌≡◌, ◌++◌, [], drop, sym, subst}
+use Rattle.std.proofs.Common.{[], drop, sym, subst}
 use Rattle.carrier_model.specs.Sorted.{IsStrictlySorted}
 use Rattle.carrier_model.specs.Values.{prop_cmp}
 use Rattle.tree_edit.specs.PropChanges.{AreChanges, first_put, with_changes}

@@ -1,4 +1,4 @@
-use Rattle.std.proofs.Common.{◌≡◌, ◌∷◌, ◌++◌, ap, sym, subst, ◌∙◌, []}
+use Rattle.std.proofs.Common.{◌≡◌, ◌∷◌, ◌++◌, ap, subst, ◌∙◌, []}
 use Rattle.std.specs.Option.{option_to_list}
 use Rattle.carrier_model.specs.Sorted.{IsStrictlySorted}
 use Rattle.carrier_model.specs.Values.{prop_cmp}

@@ -1,4 +1,4 @@
-use Rattle.std.proofs.Common.{◌∙◌, ap}
+use Rattle.std.proofs.Common.{◌∙◌}
 use Rattle.tree_edit.proofs.PropChanges.{none_equal, put_last}
 use Rattle.tree_edit.proofs.prop_changes.put_last.Goals as goal
 use Rattle.tree_edit.proofs.prop_changes.put_last.Goals.{in-Ok, in-Err-NoMemory}

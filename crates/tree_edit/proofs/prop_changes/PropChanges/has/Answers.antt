@@ -1,6 +1,6 @@
-use Rattle.std.proofs.Common.{◌≡◌, ◌∙◌, Bool, List, ap, sym}
+use Rattle.std.proofs.Common.{◌∙◌, Bool, List, ap, sym}
 use Rattle.std.specs.List.{list_any}
-use Rattle.carrier_model.specs.Values.{Prop, kind_of, with_pair}
+use Rattle.carrier_model.specs.Values.{Prop, kind_of}
 use Rattle.edit_model.specs.Edits.{has_pair}
 use Rattle.prop_names.specs.Meaning.{key_of}
 use Rattle.prop_values.specs.Kinds.{kind_number}

@@ -1,7 +1,6 @@
-use Rattle.std.proofs.Common.{◌≡◌, ◌∙◌, ap, sym, Ok}
+use Rattle.std.proofs.Common.{◌∙◌, ap, sym}
 use Rattle.carrier_model.specs.Values.{Prop, kind_of}
 use Rattle.edit_model.specs.Edits.{with_prop}
-use Rattle.prop_names.specs.Meaning.{key_of}
 use Rattle.tree_edit.proofs.PropChanges.{set_more}
 use Rattle.tree_edit.proofs.prop_changes.PropChanges.set.Goals as goal
 
