@@ -13,7 +13,8 @@ file; the memory above that of a run on the 63-byte sample is at most 12 times a
 other. A ratio above its bound is printed bold, and so is an end that is not the expected one; the exit code is then 1.
 Instructions at twice the size are told over those at the size; memory that is far away makes times grow by more.
 Times are processor times, the least of some runs. A row that takes less than 20 ms is mostly the start of a process:
-its times are in brackets and tell nothing. Edits are measured by the bytes of their words and their input.
+its times are in brackets and tell nothing. Memory of edits is told over their input and their words as the system hands
+them over: each word with the zero behind it and the eight bytes of its place.
 """
 
 import argparse
@@ -27,6 +28,8 @@ import shapes
 
 LINEAR, DIGEST, TINY, OTHER = 2.3, 20, 12, 2.2
 SHORT = 0.02
+# What the system keeps of a word beside its bytes: a zero behind it, and its place.
+WORD_MORE = 1 + 8
 
 
 class Row(typing.NamedTuple):
@@ -87,12 +90,12 @@ class Bench:
         return [self.measure.least([self.program, *words], source, self.runs * again)
                 for words, source in zip(command, sources)]
 
-    def row(self, name, command, sources, digested, expected, bound):
+    def row(self, name, command, sources, digested, expected, bound, size=None):
         """A row; one that is above a bound of time is measured again with more runs."""
+        size = size or digested.stat().st_size
         for again in (1, 3):
             half, whole = self.pair(command, sources, again)
             digest = self.measure.least(["sha256sum"], digested, self.runs * again).seconds
-            size = digested.stat().st_size
             memory = (whole.peak - self.base(command[1])) / size
             row = Row(name, command[1][0], size, whole.seconds, whole.seconds / max(half.seconds, 1e-4),
                       whole.seconds / max(digest, 1e-4), memory, bound, whole.code, wrong_end((half, whole), *expected))
@@ -124,11 +127,12 @@ def shape_rows(bench, shape):
 
 
 def edit_rows(bench, shape):
-    """The row of edits. The words count as bytes of the input."""
+    """The row of edits. The words count as bytes of the input, which the system hands over as texts and places."""
     sources, words = bench.inputs(shape), [shape.words(count) for count in (shape.count, 2 * shape.count)]
     digested = bench.folder / "digested"
     digested.write_bytes(sources[1].read_bytes() + b"\0".join(word.encode() for word in words[1]))
-    yield bench.row(shape.name, words, sources, digested, (shape.code, shape.line), TINY)
+    handed = sources[1].stat().st_size + sum(len(word.encode()) + WORD_MORE for word in words[1])
+    yield bench.row(shape.name, words, sources, digested, (shape.code, shape.line), TINY, handed)
 
 
 def sample_row(bench):

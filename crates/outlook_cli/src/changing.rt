@@ -1,5 +1,5 @@
 //! Messages that are changed, and written as .msg files.
-ghost use Rattle.std.specs.Prelude.{◌≡◌, ◌≤◌, ℕ, List, length};
+ghost use Rattle.std.specs.Prelude.{◌≡◌, ◌≤◌, ℕ, List, IfOk, length};
 ghost use Rattle.carrier_io.specs.Causes.{Rose};
 ghost use Rattle.carrier_model.specs.Bytes.{MOST_BYTES};
 ghost use Rattle.job_model.specs.Changes.{changed};
@@ -9,12 +9,14 @@ ghost use Rattle.outlook_cli.specs.Outcome.{PutsChange, PutsFile, TellsChange, W
 
 use crate::telling::stopped;
 use carrier_io::{Blob, Holds, NoMemory, Sink};
+use cfb_sectors::StreamView;
 use edit_words::Edits;
-use msg_tree::{Tree, copy_owned};
+use msg_tree::Tree;
 use outlook_status::Status;
 use std::alloc::Global;
+use tnef_message::Held;
 use translate_core::{Input, PutEnd, accept, write_msg};
-use tree_edit::{EditEnd, edit_in_place};
+use tree_edit::{EditEnd, edit_in_place, held_tree};
 use tree_text8::{TextEnd, is_unicode, unicode_of};
 
 /// Writes the .msg file of a message. [MS-OXMSG 2.3]
@@ -83,11 +85,18 @@ fn write_edited<C: Holds<Vec<u8>>, O: Sink>(
     }
 }
 
-/// Writes the file of the message that edits make on a copy. What was read is gone by then.
-fn write_edited_copy<B: Blob, O: Sink>(
+/// A tree of a .msg file, whose values are views of it, over blobs that owned bytes become too.
+fn held_msg<'a>(alloc: Global, tree: Tree<StreamView<'a>>) -> Result<Tree<Held<'a>>, NoMemory>
+    ensures { IfOk result (λ t. plain_of t ≡ plain_of tree) }
+{
+    held_tree(alloc, tree)
+}
+
+/// Writes the file of the message that edits make of one of a .msg file.
+fn write_edited_msg<'a, O: Sink>(
     alloc: Global,
     edits: &Edits<'_>,
-    tree: Tree<B>,
+    tree: Tree<StreamView<'a>>,
     output: &mut O,
 ) -> Status
     ensures puts { (bytes : List ℕ) → PutsChange (changed (plain_edited edits.now) (plain_of tree)) bytes (O.held output.old) (O.held output.new) result }
@@ -96,10 +105,8 @@ fn write_edited_copy<B: Blob, O: Sink>(
     ensures no_usage { result ≡ Status.Usage → ⊥ }
     ensures no_read_fault { result ≡ Status.ReadFault → ⊥ }
 {
-    let copy = copy_owned(alloc, &tree);
-    drop(tree);
-    match copy {
-        Ok(copy) => write_edited(alloc, edits, copy, output),
+    match held_msg(alloc, tree) {
+        Ok(held) => write_edited(alloc, edits, held, output),
         Err(NoMemory) => Status::NoMemory,
     }
 }
@@ -120,8 +127,7 @@ pub fn unicode_bytes<O: Sink>(alloc: Global, bytes: &[u8], output: &mut O) -> St
     }
 }
 
-/// Writes the .msg file of the message that edits make of the one that bytes mean. Of a .msg file a copy is edited, since
-/// its values are views of it, and owned bytes become none.
+/// Writes the .msg file of the message that edits make of the one that bytes mean.
 pub fn edit_bytes<O: Sink>(alloc: Global, edits: &Edits<'_>, bytes: &[u8], output: &mut O) -> Status
     requires { length bytes.now ≤ MOST_BYTES }
     ensures told { TellsChange (plain_edited edits.now) bytes.now (O.held output.old) (O.held output.new) result }
@@ -132,7 +138,7 @@ pub fn edit_bytes<O: Sink>(alloc: Global, edits: &Edits<'_>, bytes: &[u8], outpu
 {
     match accept(alloc, bytes) {
         Err(stop) => stopped(stop),
-        Ok(Input::Msg(accepted)) => write_edited_copy(alloc, edits, accepted.tree, output),
+        Ok(Input::Msg(accepted)) => write_edited_msg(alloc, edits, accepted.tree, output),
         Ok(Input::Tnef(accepted)) => write_edited(alloc, edits, accepted.tree, output),
     }
 }

@@ -1,6 +1,7 @@
 mod ChunkLists
 mod Composed
 mod Found
+mod HandedOn
 mod Made
 mod PropChanges
 mod Once

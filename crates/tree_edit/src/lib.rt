@@ -6,6 +6,7 @@ mod chunked_list;
 mod editable;
 mod editing;
 mod ends;
+mod held;
 mod lists;
 mod prop_changes;
 mod recipient_chunks;
@@ -13,4 +14,5 @@ mod runs;
 mod whole;
 
 pub use ends::{EditEnd, EditFault, EditWhy};
+pub use held::held_tree;
 pub use whole::{edit_in_place, edited};

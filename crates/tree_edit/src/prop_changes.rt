@@ -214,7 +214,7 @@ fn order_of_first<C: Blob>(changes: &BTreeMap<Pair, Option<Prop<C>>>, prop: &Pro
 }
 
 /// Puts a property behind those of a list, which are below it.
-fn put_last<C: Blob>(list: &mut Props<C>, prop: Prop<C>) -> Result<(), NoMemory>
+pub fn put_last<C: Blob>(list: &mut Props<C>, prop: Prop<C>) -> Result<(), NoMemory>
     requires { (rest : List PlainProp) × IsStrictlySorted prop_cmp (list.old ++ prop ∷ rest) }
     ensures { OnOk result (list.new ≡ list.old ++ prop ∷ []) }
 {

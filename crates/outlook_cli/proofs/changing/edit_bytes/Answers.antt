@@ -8,7 +8,7 @@ returns-in-Ok-Msg-clause-told g c =
     let bytes = c.args.bytes.now in
     let m = meaning_in c.in-Ok-Msg.accepted in
     let read = rw c.in-Ok-Msg.field-0-is at c.in-Ok-Msg.ensures in
-    change_told (edited c.args.edits.now) bytes _ _ c.write_edited_copy.result m (accepts_file bytes m c.requires read) (c.write_edited_copy.ensures.puts bytes)
+    change_told (edited c.args.edits.now) bytes _ _ c.write_edited_msg.result m (accepts_file bytes m c.requires read) (c.write_edited_msg.ensures.puts bytes)
 
 pub returns-in-Ok-Tnef-clause-told : goal.returns-in-Ok-Tnef-clause-told
 returns-in-Ok-Tnef-clause-told g c =
