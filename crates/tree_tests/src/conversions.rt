@@ -3,12 +3,12 @@ ghost use Rattle.std.specs.Prelude.{◌<◌};
 ghost use Rattle.carrier_model.specs.Values.{IsValue};
 ghost use Rattle.prop_values.specs.Meaning.{value_of};
 
-use msg_tree::{Attachment, Attachments, Body, Message, Recipients, Tree, same};
+use msg_tree::{Attachment, Attachments, Body, Message, Recipients, Tree, copy_owned, same};
 use prop_names::Key;
 use prop_values::{Kind, Prop, Props, Value};
 use std::alloc::Global;
 use std::test::*;
-use tree_text8::{Page, TextEnd, Unmapped, Why, is_unicode, page_of, unicode_of};
+use tree_text8::{Page, TextEnd, Unmapped, Why, is_unicode, page_of, unicode_in_place, unicode_of};
 
 type Text = &'static [u8];
 
@@ -157,5 +157,7 @@ fn a_message_in_another(rt: HostRuntime) -> Result<(), Fail> {
     let expected = nested(alloc, wide_subject(b"\xe4\0")?, wide_subject(b"\xac\x20")?)?;
     let made = unicode_of(alloc, &tree)?;
     assert!(rt; same(&made, &expected));
+    let in_place = unicode_in_place(alloc, copy_owned(alloc, &tree)?)?;
+    assert!(rt; same(&in_place, &expected));
     Ok(())
 }

@@ -1,9 +1,11 @@
 mod Elements
 mod Folds
+mod InPlace
 mod Numbers
 mod Pairs
 mod Runs
 mod Selves
 mod Steps
+mod Turns
 mod Walked
 mod Whole

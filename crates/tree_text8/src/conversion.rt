@@ -8,8 +8,8 @@ ghost use Rattle.tree_text8.specs.Whole.{IsFirstEnd};
 use crate::ends::TextEnd;
 use crate::narrow::is_narrow;
 use crate::trees::convert_message;
-use carrier_io::Blob;
-use msg_tree::Tree;
+use carrier_io::{Blob, Holds};
+use msg_tree::{Tree, copy_owned};
 use std::alloc::Global;
 
 /// The number of the page of a top message that names none: Windows-1252.
@@ -31,7 +31,18 @@ pub fn unicode_of<B: Blob>(alloc: Global, tree: &Tree<B>) -> Result<Tree<Vec<u8>
     ensures only { IfOk result (λ r. (u : PlainMessage) → UnicodeOf (plain_of tree.now) u → u ≡ plain_of r) }
     ensures first { IfErr result (IsFirstEnd (plain_of tree.now)) }
 {
+    unicode_in_place(alloc, copy_owned(alloc, tree)?)
+}
+
+/// The same of a tree over blobs that owned bytes become, whose texts are converted in place. What isn't converted stays
+/// where it is. It ends as `unicode_of` does.
+pub fn unicode_in_place<C: Holds<Vec<u8>>>(alloc: Global, tree: Tree<C>) -> Result<Tree<C>, TextEnd>
+    ensures ok { IfOk result (λ r. UnicodeOf (plain_of tree) (plain_of r)) }
+    ensures only { IfOk result (λ r. (u : PlainMessage) → UnicodeOf (plain_of tree) u → u ≡ plain_of r) }
+    ensures first { IfErr result (IsFirstEnd (plain_of tree)) }
+{
+    let mut message = tree.into_message();
     let mut next = 0;
-    let message = convert_message(alloc, FIRST_PAGE, tree.top(), &mut next)?;
+    convert_message(alloc, FIRST_PAGE, &mut message, &mut next)?;
     Ok(Tree::from_shallow(message))
 }

@@ -11,6 +11,6 @@ mod texts;
 mod trees;
 mod values;
 
-pub use conversion::{is_unicode, unicode_of};
+pub use conversion::{is_unicode, unicode_in_place, unicode_of};
 pub use ends::{TextEnd, Unmapped, Why};
 pub use pages::{Page, page_of};

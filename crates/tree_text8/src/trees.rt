@@ -1,5 +1,5 @@
 //! Trees whose texts are converted.
-ghost use Rattle.std.specs.Prelude.{◌≡◌, ◌+◌, [], map, sum_by, length, None, OnOk, IfOk, IfErr};
+ghost use Rattle.std.specs.Prelude.{◌≡◌, ◌+◌, [], map, sum_by, length, None, OnOk, IfErr};
 ghost use Rattle.msg_tree.specs.Meaning.{tree_of, list_of, attached_of};
 ghost use Rattle.text8_model.specs.Unicode as plain;
 ghost use Rattle.tree_text8.specs.Ends.{IsEndOf};
@@ -8,8 +8,8 @@ ghost use Rattle.carrier_model.specs.Tree.{attachments_from};
 
 use crate::ends::TextEnd;
 use crate::properties::convert_props;
-use carrier_io::Blob;
-use msg_tree::{Attachment, Attachments, Body, Message, Recipients, copy_store};
+use carrier_io::{Blob, Holds};
+use msg_tree::{Attachment, Attachments, Body, Message, Recipients};
 use prop_values::{Kind, Prop, Props, Value};
 use std::alloc::Global;
 
@@ -44,99 +44,90 @@ fn page_in<B: Blob>(outer: u32, props: &Props<B>) -> u32
     outer
 }
 
-/// Recipients with their texts in units. `next` is the number of the first property, as in all of these.
-fn convert_recipients<B: Blob>(
-    alloc: Global,
-    code: u32,
-    recipients: &Recipients<B>,
-    next: &mut u64,
-) -> Result<Recipients<Vec<u8>>, TextEnd>
-    ensures good { IfOk result (λ _. plain.bad_recipients code next.old recipients.now ≡ []) }
-    ensures ok { IfOk result (λ r. r ≡ map (plain.converted_props code) recipients.now) }
-    ensures next { OnOk result (AreOne next.new (next.old + sum_by length recipients.now)) }
-    ensures end { IfErr result (IsEndOf (plain.bad_recipients code next.old recipients.now)) }
-{
-    let mut all = Recipients::with_capacity(alloc, recipients.len())?;
-    for k in 0..recipients.len() {
-        all.push(convert_props(alloc, code, recipients.get(k), next)?)?;
+/// An attachment without anything.
+fn empty<B: Blob>(alloc: Global) -> Attachment<B> {
+    Attachment {
+        props: Props::new(alloc),
+        body: Body::Plain,
     }
-    Ok(all)
 }
 
-/// A message with its texts in units. `outer` is the number of the page of the message round it.
+/// Converts the texts of recipients into units. `next` is the number of the first property, as in all of these, and what
+/// isn't converted wholly is of no use.
+fn convert_recipients<C: Holds<Vec<u8>>>(
+    alloc: Global,
+    code: u32,
+    recipients: &mut Recipients<C>,
+    next: &mut u64,
+) -> Result<(), TextEnd>
+    ensures good { OnOk result (plain.bad_recipients code next.old recipients.old ≡ []) }
+    ensures ok { OnOk result (recipients.new ≡ map (plain.converted_props code) recipients.old) }
+    ensures next { OnOk result (AreOne next.new (next.old + sum_by length recipients.old)) }
+    ensures end { IfErr result (IsEndOf (plain.bad_recipients code next.old recipients.old)) }
+{
+    for k in 0..recipients.len() {
+        let mut props = recipients.replace(k, Props::new(alloc));
+        convert_props(alloc, code, &mut props, next)?;
+        drop(recipients.replace(k, props));
+    }
+    Ok(())
+}
+
+/// Converts the texts of a message into units. `outer` is the number of the page of the message round it.
 #[cycle(convert)]
-pub(crate) fn convert_message<B: Blob>(
+pub(crate) fn convert_message<C: Holds<Vec<u8>>>(
     alloc: Global,
     outer: u32,
-    message: &Message<B>,
+    message: &mut Message<C>,
     next: &mut u64,
-) -> Result<Message<Vec<u8>>, TextEnd>
-    ensures good { IfOk result (λ _. plain.bad_in outer next.old (tree_of B.bytes message.now) ≡ []) }
-    ensures ok { IfOk result (λ r. tree_of (λ v. v.items) r ≡ plain.converted_in outer (tree_of B.bytes message.now)) }
-    ensures next { OnOk result (AreOne next.new (next.old + plain.props_in (tree_of B.bytes message.now))) }
-    ensures end { IfErr result (IsEndOf (plain.bad_in outer next.old (tree_of B.bytes message.now))) }
+) -> Result<(), TextEnd>
+    ensures good { OnOk result (plain.bad_in outer next.old (tree_of C.bytes message.old) ≡ []) }
+    ensures ok { OnOk result (tree_of C.bytes message.new ≡ plain.converted_in outer (tree_of C.bytes message.old)) }
+    ensures next { OnOk result (AreOne next.new (next.old + plain.props_in (tree_of C.bytes message.old))) }
+    ensures end { IfErr result (IsEndOf (plain.bad_in outer next.old (tree_of C.bytes message.old))) }
 {
     let code = page_in(outer, &message.props);
-    let props = convert_props(alloc, code, &message.props, next)?;
-    let recipients = convert_recipients(alloc, code, &message.recipients, next)?;
-    let attachments = convert_attachments(alloc, code, &message.attachments, next)?;
-    Ok(Message {
-        props,
-        recipients,
-        attachments,
-    })
+    convert_props(alloc, code, &mut message.props, next)?;
+    convert_recipients(alloc, code, &mut message.recipients, next)?;
+    convert_attachments(alloc, code, &mut message.attachments, next)
 }
 
 #[cycle(convert)]
-fn convert_attachments<B: Blob>(
+fn convert_attachments<C: Holds<Vec<u8>>>(
     alloc: Global,
     code: u32,
-    list: &Attachments<B>,
+    list: &mut Attachments<C>,
     next: &mut u64,
-) -> Result<Attachments<Vec<u8>>, TextEnd>
-    ensures good { IfOk result (λ _. plain.bad_below code next.old (attachments_from (list_of B.bytes list.now)) ≡ []) }
-    ensures ok { IfOk result (λ r. list_of (λ v. v.items) r ≡ map (converted_attached code) (list_of B.bytes list.now)) }
-    ensures next { OnOk result (AreOne next.new (next.old + sum_by props_at (list_of B.bytes list.now))) }
-    ensures end { IfErr result (IsEndOf (plain.bad_below code next.old (attachments_from (list_of B.bytes list.now)))) }
+) -> Result<(), TextEnd>
+    ensures good { OnOk result (plain.bad_below code next.old (attachments_from (list_of C.bytes list.old)) ≡ []) }
+    ensures ok { OnOk result (list_of C.bytes list.new ≡ map (converted_attached code) (list_of C.bytes list.old)) }
+    ensures next { OnOk result (AreOne next.new (next.old + sum_by props_at (list_of C.bytes list.old))) }
+    ensures end { IfErr result (IsEndOf (plain.bad_below code next.old (attachments_from (list_of C.bytes list.old)))) }
 {
-    let mut all = Attachments::with_capacity(alloc, list.len())?;
     for k in 0..list.len() {
-        all.push(convert_attachment(alloc, code, list.get(k), next)?)?;
+        let mut held = list.replace(k, empty(alloc));
+        convert_attachment(alloc, code, &mut held, next)?;
+        drop(list.replace(k, held));
     }
-    Ok(all)
+    Ok(())
 }
 
 #[cycle(convert)]
-fn convert_attachment<B: Blob>(
+fn convert_attachment<C: Holds<Vec<u8>>>(
     alloc: Global,
     code: u32,
-    attachment: &Attachment<B>,
+    attachment: &mut Attachment<C>,
     next: &mut u64,
-) -> Result<Attachment<Vec<u8>>, TextEnd>
-    ensures good { IfOk result (λ _. bad_attached code next.old (attached_of B.bytes attachment.now) ≡ []) }
-    ensures ok { IfOk result (λ r. attached_of (λ v. v.items) r ≡ converted_attached code (attached_of B.bytes attachment.now)) }
-    ensures next { OnOk result (AreOne next.new (next.old + props_at (attached_of B.bytes attachment.now))) }
-    ensures end { IfErr result (IsEndOf (bad_attached code next.old (attached_of B.bytes attachment.now))) }
+) -> Result<(), TextEnd>
+    ensures good { OnOk result (bad_attached code next.old (attached_of C.bytes attachment.old) ≡ []) }
+    ensures ok { OnOk result (attached_of C.bytes attachment.new ≡ converted_attached code (attached_of C.bytes attachment.old)) }
+    ensures next { OnOk result (AreOne next.new (next.old + props_at (attached_of C.bytes attachment.old))) }
+    ensures end { IfErr result (IsEndOf (bad_attached code next.old (attached_of C.bytes attachment.old))) }
 {
-    let props = convert_props(alloc, code, &attachment.props, next)?;
-    match &attachment.body {
-        Body::Message(inner) => {
-            let converted = convert_message(alloc, code, inner, next)?;
-            Ok(Attachment {
-                props,
-                body: Body::Message(Box::new(alloc, converted)?),
-            })
-        }
-        Body::Plain => Ok(Attachment {
-            props,
-            body: Body::Plain,
-        }),
-        Body::Store(store) => {
-            let copy = copy_store(alloc, store)?;
-            Ok(Attachment {
-                props,
-                body: Body::Store(copy),
-            })
-        }
+    convert_props(alloc, code, &mut attachment.props, next)?;
+    match &mut attachment.body {
+        Body::Message(inner) => convert_message(alloc, code, inner, next),
+        Body::Plain => Ok(()),
+        Body::Store(_) => Ok(()),
     }
 }
