@@ -17,7 +17,7 @@ use std::alloc::Global;
 use tnef_message::Held;
 use translate_core::{Input, PutEnd, accept, write_msg};
 use tree_edit::{EditEnd, edit_in_place, held_tree};
-use tree_text8::{TextEnd, is_unicode, unicode_of};
+use tree_text8::{TextEnd, is_unicode, unicode_in_place};
 
 /// Writes the .msg file of a message. [MS-OXMSG 2.3]
 pub fn write_file<B: Blob, O: Sink>(alloc: Global, tree: &Tree<B>, output: &mut O) -> Status
@@ -45,21 +45,15 @@ fn without_unicode(end: TextEnd) -> Status
     }
 }
 
-/// Writes the file of a message with its texts of 8-bit characters in 16-bit units. Where it has none that is converted,
-/// this is the file of the message itself; else the message is gone by then.
-fn write_unicode<B: Blob, O: Sink>(alloc: Global, tree: Tree<B>, output: &mut O) -> Status
+/// Writes the file of a message with its texts of 8-bit characters in 16-bit units, which are converted in place.
+fn write_unicode<C: Holds<Vec<u8>>, O: Sink>(alloc: Global, tree: Tree<C>, output: &mut O) -> Status
     ensures puts { (bytes : List ℕ) → PutsChange (changed to_unicode (plain_of tree)) bytes (O.held output.old) (O.held output.new) result }
     ensures nothing { WritesNothing result output.old output.new }
     ensures fault { result ≡ Status.WriteFault → Rose (O.faults output.old) (O.faults output.new) }
     ensures no_usage { result ≡ Status.Usage → ⊥ }
     ensures no_read_fault { result ≡ Status.ReadFault → ⊥ }
 {
-    if is_unicode(&tree) {
-        return write_file(alloc, &tree, output);
-    }
-    let converted = unicode_of(alloc, &tree);
-    drop(tree);
-    match converted {
+    match unicode_in_place(alloc, tree) {
         Ok(unicode) => write_file(alloc, &unicode, output),
         Err(end) => without_unicode(end),
     }
@@ -92,11 +86,29 @@ fn held_msg<'a>(alloc: Global, tree: Tree<StreamView<'a>>) -> Result<Tree<Held<'
     held_tree(alloc, tree)
 }
 
-/// Writes the file of the message that edits make of one of a .msg file.
-fn write_edited_msg<'a, O: Sink>(
+/// Writes the file of the message of a .msg file with its texts of 8-bit characters in 16-bit units. Where it has none that
+/// is converted, this is the file of the message as it was read.
+fn write_unicode_msg<O: Sink>(alloc: Global, tree: Tree<StreamView<'_>>, output: &mut O) -> Status
+    ensures puts { (bytes : List ℕ) → PutsChange (changed to_unicode (plain_of tree)) bytes (O.held output.old) (O.held output.new) result }
+    ensures nothing { WritesNothing result output.old output.new }
+    ensures fault { result ≡ Status.WriteFault → Rose (O.faults output.old) (O.faults output.new) }
+    ensures no_usage { result ≡ Status.Usage → ⊥ }
+    ensures no_read_fault { result ≡ Status.ReadFault → ⊥ }
+{
+    if is_unicode(&tree) {
+        return write_file(alloc, &tree, output);
+    }
+    match held_msg(alloc, tree) {
+        Ok(held) => write_unicode(alloc, held, output),
+        Err(NoMemory) => Status::NoMemory,
+    }
+}
+
+/// Writes the file of the message that edits make of that of a .msg file.
+fn write_edited_msg<O: Sink>(
     alloc: Global,
     edits: &Edits<'_>,
-    tree: Tree<StreamView<'a>>,
+    tree: Tree<StreamView<'_>>,
     output: &mut O,
 ) -> Status
     ensures puts { (bytes : List ℕ) → PutsChange (changed (plain_edited edits.now) (plain_of tree)) bytes (O.held output.old) (O.held output.new) result }
@@ -122,7 +134,7 @@ pub fn unicode_bytes<O: Sink>(alloc: Global, bytes: &[u8], output: &mut O) -> St
 {
     match accept(alloc, bytes) {
         Err(stop) => stopped(stop),
-        Ok(Input::Msg(accepted)) => write_unicode(alloc, accepted.tree, output),
+        Ok(Input::Msg(accepted)) => write_unicode_msg(alloc, accepted.tree, output),
         Ok(Input::Tnef(accepted)) => write_unicode(alloc, accepted.tree, output),
     }
 }

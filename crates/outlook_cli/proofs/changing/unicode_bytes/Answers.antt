@@ -8,11 +8,11 @@ returns-in-Ok-Msg-clause-told g c =
     let bytes = c.args.bytes.now in
     let m = meaning_in c.in-Ok-Msg.accepted in
     let read = rw c.in-Ok-Msg.field-0-is at c.in-Ok-Msg.ensures in
-    change_told to_unicode bytes _ _ c.write_unicode.result m (accepts_file bytes m c.requires read) (c.write_unicode.ensures.puts bytes)
+    change_told to_unicode bytes _ _ c.write_unicode_msg.result m (accepts_file bytes m c.requires read) (c.write_unicode_msg.ensures.puts bytes)
 
 pub returns-in-Ok-Tnef-clause-told : goal.returns-in-Ok-Tnef-clause-told
 returns-in-Ok-Tnef-clause-told g c =
     let bytes = c.args.bytes.now in
     let m = meaning_in c.in-Ok-Tnef.accepted in
     let read = rw c.in-Ok-Tnef.field-0-is at c.in-Ok-Tnef.ensures in
-    change_told to_unicode bytes _ _ c.write_unicode-in-Ok-Tnef.result m (accepts_file bytes m c.requires read) (c.write_unicode-in-Ok-Tnef.ensures.puts bytes)
+    change_told to_unicode bytes _ _ c.write_unicode.result m (accepts_file bytes m c.requires read) (c.write_unicode.ensures.puts bytes)
