@@ -206,6 +206,11 @@ def one_value(count):
     return message_list([inputs.binary(0x1013, noise(count))])
 
 
+def value_and_text(count):
+    """A value, and a short text of 8-bit characters."""
+    return message_list([inputs.text(0x0037, b"caf\xe9"), inputs.binary(0x1013, noise(count))])
+
+
 NAME_LIMITS = unfit(WRITERS)
 ROW_LIMITS = unfit(MSG_WRITERS)
 JSON_TOO = {**ROW_LIMITS, "to-json": 3}
@@ -264,6 +269,7 @@ def text_shapes():
     for name, piece in (("control characters", b"\1\0"), ("lone surrogates", b"\0\xd8"), ("quotes", b'"\0')):
         yield Shape(f"tnef text of {name}", functools.partial(text16, piece), 5 << 20, some, {}, tiny=False)
     yield Shape("tnef one value", one_value, 7 << 20, STREAM_READERS, {}, tiny=False)
+    yield Shape("tnef one value and a text in 1252", value_and_text, 7 << 20, STREAM_READERS, {}, tiny=False)
 
 
 # ---- compound files
@@ -456,6 +462,15 @@ def msg_levels(levels, count):
     return compound(Entry("Root Entry", children=inner))
 
 
+def msg_value_and_text(count):
+    """A value, and a short text of 8-bit characters."""
+    return compound(Entry("Root Entry", children=[
+        Entry("__properties_version1.0", msg_properties([(0x0037001E, 5), (0x10130102, count)])),
+        Entry("__substg1.0_0037001E", b"caf\xe9"),
+        Entry("__substg1.0_10130102", noise(count)),
+    ]))
+
+
 def msg_with(stream, *more):
     return compound(Entry("Root Entry", children=[Entry("__properties_version1.0", bytes(32) + stream), *more]))
 
@@ -581,6 +596,7 @@ def file_shapes():
     yield Shape("msg names of one text", shared_text, 16_000, every, {})
     yield Shape("msg names in many lists", names_in_many_lists, 40, every, {})
     yield Shape("msg values, small", inputs.msg_texts, 15_000, every, {})
+    yield Shape("msg one value and a text in 1252", msg_value_and_text, 7 << 20, every, {}, tiny=False)
 
 
 # ---- mails
