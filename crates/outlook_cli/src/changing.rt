@@ -81,7 +81,7 @@ fn write_edited<C: Holds<Vec<u8>>, O: Sink>(
 
 /// A tree of a .msg file, whose values are views of it, over blobs that owned bytes become too.
 fn held_msg<'a>(alloc: Global, tree: Tree<StreamView<'a>>) -> Result<Tree<Held<'a>>, NoMemory>
-    ensures { IfOk result (λ t. plain_of t ≡ plain_of tree) }
+    ensures { IfOk result (λ t. plain_of t ≡ plain_of tree.entry) }
 {
     held_tree(alloc, tree)
 }
@@ -89,7 +89,7 @@ fn held_msg<'a>(alloc: Global, tree: Tree<StreamView<'a>>) -> Result<Tree<Held<'
 /// Writes the file of the message of a .msg file with its texts of 8-bit characters in 16-bit units. Where it has none that
 /// is converted, this is the file of the message as it was read.
 fn write_unicode_msg<O: Sink>(alloc: Global, tree: Tree<StreamView<'_>>, output: &mut O) -> Status
-    ensures puts { (bytes : List ℕ) → PutsChange (changed to_unicode (plain_of tree)) bytes (O.held output.old) (O.held output.new) result }
+    ensures puts { (bytes : List ℕ) → PutsChange (changed to_unicode (plain_of tree.entry)) bytes (O.held output.old) (O.held output.new) result }
     ensures nothing { WritesNothing result output.old output.new }
     ensures fault { result ≡ Status.WriteFault → Rose (O.faults output.old) (O.faults output.new) }
     ensures no_usage { result ≡ Status.Usage → ⊥ }
@@ -111,7 +111,7 @@ fn write_edited_msg<O: Sink>(
     tree: Tree<StreamView<'_>>,
     output: &mut O,
 ) -> Status
-    ensures puts { (bytes : List ℕ) → PutsChange (changed (plain_edited edits.now) (plain_of tree)) bytes (O.held output.old) (O.held output.new) result }
+    ensures puts { (bytes : List ℕ) → PutsChange (changed (plain_edited edits.now) (plain_of tree.entry)) bytes (O.held output.old) (O.held output.new) result }
     ensures nothing { WritesNothing result output.old output.new }
     ensures fault { result ≡ Status.WriteFault → Rose (O.faults output.old) (O.faults output.new) }
     ensures no_usage { result ≡ Status.Usage → ⊥ }
