@@ -31,18 +31,4 @@ fn main(rt: HostRuntime) -> ExitCode {
 }
 
 #[cfg(test)]
-mod changing_tests;
-#[cfg(test)]
-mod file_tests;
-#[cfg(test)]
-mod layout_tests;
-#[cfg(test)]
-mod mail_tests;
-#[cfg(test)]
-mod outlook_tests;
-#[cfg(test)]
-mod stream_tests;
-#[cfg(test)]
-mod telling_tests;
-#[cfg(test)]
 mod tests;

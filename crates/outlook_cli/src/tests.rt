@@ -1,3 +1,11 @@
+mod changing;
+mod file;
+mod layout;
+mod mail;
+mod outlook;
+mod stream;
+mod telling;
+
 use crate::run::run;
 use carrier_io::{Fault, MemorySink, MemorySource, Reason};
 use outlook_status::Status;

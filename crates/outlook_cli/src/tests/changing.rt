@@ -1,5 +1,5 @@
-use crate::file_tests::{changed, file_of};
-use crate::stream_tests::listed;
+use crate::tests::file::{changed, file_of};
+use crate::tests::stream::listed;
 use crate::tests::{ONE_PROPERTY, ends, run_over, write};
 use outlook_status::Status;
 use std::test::*;

@@ -1,4 +1,4 @@
-use crate::file_tests::file_of;
+use crate::tests::file::file_of;
 use crate::tests::{ends, refuse, write};
 use carrier_io::{Reason, le16, le32, le64};
 use std::test::*;

@@ -1,6 +1,6 @@
-use crate::file_tests::file_of;
-use crate::layout_tests::with_passed_entries;
-use crate::stream_tests::{NAMED, listed};
+use crate::tests::file::file_of;
+use crate::tests::layout::with_passed_entries;
+use crate::tests::stream::{NAMED, listed};
 use crate::tests::{ONE_PROPERTY, ends, run_over, write};
 use std::test::*;
 

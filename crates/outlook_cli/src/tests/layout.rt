@@ -1,5 +1,5 @@
-use crate::file_tests::{changed, file_of, place_of};
-use crate::stream_tests::{MESSAGE, listed, nested_over, with_object};
+use crate::tests::file::{changed, file_of, place_of};
+use crate::tests::stream::{MESSAGE, listed, nested_over, with_object};
 use crate::tests::{refuse, write};
 use carrier_io::Reason;
 use std::test::*;

@@ -1,6 +1,6 @@
-use crate::file_tests::{file_of, place_of};
-use crate::stream_tests::{FRONT, attribute};
+use crate::tests::file::{file_of, place_of};
 use crate::tests::run_over;
+use crate::tests::stream::{FRONT, attribute};
 use std::test::*;
 
 /// The list of a message: two named properties, and what stands before the 600 bytes of the id 1009.

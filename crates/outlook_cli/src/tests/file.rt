@@ -1,4 +1,4 @@
-use crate::stream_tests::{NAMED, listed};
+use crate::tests::stream::{NAMED, listed};
 use crate::tests::{ONE_PROPERTY, holds, refuse, run_over, write};
 use carrier_io::{Reason, le32, u32_at};
 use std::test::*;
