@@ -59,6 +59,9 @@ impl<'a> Holds<&'a [u8]> for Held<'a> {
 
 impl<'a> Holds<StreamView<'a>> for Held<'a> {
     fn holding(alloc: Global, view: StreamView<'a>) -> Result<Held<'a>, NoMemory> {
+        if view.len() == 0 {
+            return Ok(Held::Slice(&[]));
+        }
         Ok(Held::View(Box::new(alloc, view)?))
     }
 }
