@@ -1,10 +1,11 @@
 -- A strictly sorted list is known by its elements, and one more element changes it as expected.
-use Rattle.std.proofs.Common.{◌≡◌, ◌⊎◌, inl, inr, ℕ, zero, suc, ◌<◌, ◌≤◌, length, get_or, List, [], ◌∷◌, refl, sym, ap, subst, ◌∙◌, arith}
+use Rattle.std.proofs.Common.{◌≡◌, ◌⊎◌, inl, inr, ℕ, zero, suc, ◌<◌, ◌≤◌, length, get_or, List, [], ◌∷◌, ◌++◌, refl, sym, ap, subst, ◌∙◌, arith, append_assoc}
 use Rattle.std.specs.Prelude.{IsPermutation, Contains}
 use Rattle.std.specs.Cmp.{IsTotalOrder}
 use Rattle.std.specs.Ordering.{ordering_reverse}
 use Rattle.std.specs.declared.cmp.Ordering.{Ordering}
 use Rattle.std.specs.declared.cmp.Ordering.TheVariants.{Less, Equal, Greater}
+use Rattle.std.proofs.lemmas.List.{get_or_append_left, length-append}
 use Rattle.std.proofs.lemmas.List.Sorted.{Contains-permutation, IsPermutation-sym, IsPermutation-insert}
 use Rattle.carrier_model.specs.Places.{IsGap}
 use Rattle.carrier_model.specs.Sorted.{IsStrictlySorted, with_element}
@@ -15,6 +16,16 @@ in_head x xs = (0, omega arith, refl)
 
 pub in_tail : {A : Type 0} (x y : A) (xs : List A) → Contains xs y → Contains (x ∷ xs) y
 in_tail x y xs (k, lt, e) = (suc k, omega arith, e)
+
+-- what stands at the front of a sorted list is sorted
+sorted_front : {A : Type 0} (R : A → A → Ordering) (xs ys : List A) → IsStrictlySorted R (xs ++ ys) → IsStrictlySorted R xs
+sorted_front R xs ys h i j d lt in_range =
+    subst (λ x. R x (get_or xs j d) ≡ Less) (get_or_append_left xs ys d i (omega (arith, lt, in_range)))
+    (subst (λ y. R (get_or (xs ++ ys) i d) y ≡ Less) (get_or_append_left xs ys d j in_range)
+    (h i j d lt (omega (arith, in_range, length-append xs ys))))
+
+pub sorted_to : {A : Type 0} (R : A → A → Ordering) (xs ys : List A) (x : A) → IsStrictlySorted R (xs ++ x ∷ ys) → IsStrictlySorted R (xs ++ x ∷ [])
+sorted_to R xs ys x s = sorted_front R (xs ++ x ∷ []) ys (subst (IsStrictlySorted R) (sym (append_assoc xs (x ∷ []) ys)) s)
 
 module _ {A : Type 0} {R : A → A → Ordering} (o : IsTotalOrder R) where
   irreflexive : (x : A) → R x x ≡ Less → ⊥

@@ -1,6 +1,6 @@
 -- Changes laid over a property list.
-use Rattle.std.proofs.Common.{◌≡◌, ℕ, zero, suc, ◌+◌, ◌<◌, length, get_or, List, [], ◌∷◌, ◌++◌, drop, map, refl, ap, sym, subst, ◌∙◌, arith, append_assoc}
-use Rattle.std.specs.Prelude.{true, false, not, ◌||◌, Bool, Any, Option, Some, None, Ok, is_some}
+use Rattle.std.proofs.Common.{◌≡◌, ℕ, suc, ◌+◌, ◌<◌, length, get_or, List, [], ◌∷◌, ◌++◌, drop, map, refl, ap, sym, subst, ◌∙◌, arith, append_assoc}
+use Rattle.std.specs.Prelude.{true, false, not, ◌||◌, Bool, Option, Some, None, Ok, is_some}
 use Rattle.std.specs.BTreeMap.{insert_entry, is_at}
 use Rattle.std.specs.List.{AllByRecursion, list_any}
 use Rattle.std.specs.List.Sorted.{IsStrictlySortedBy}
@@ -347,26 +347,6 @@ at_last m v cs n l whole is ended = sym (ap (λ n. m ++ with_changes cs (option_
 pub rest_changes : (cs : List Change) → AreChanges cs → AreChanges (drop 1 cs)
 rest_changes [] own = tt
 rest_changes (c ∷ cs) own = own.1
-
--- ---- what is put behind all others
-
-below_at : (y p : Prop) (l m : List Prop) → IsBelow y (l ++ p ∷ m) → prop_cmp y p ≡ Less
-below_at y p [] m h = h.0
-below_at y p (q ∷ l) m h = below_at y p l m h.1
-
-pub put_last : (l m : List Prop) (p : Prop) → IsStrictlySorted prop_cmp (l ++ p ∷ m) → with_element prop_cmp l p ≡ l ++ p ∷ []
-put_last [] m p s = refl
-put_last (y ∷ l) m p s =
-    let less = below_at y p l m (first_below y (l ++ p ∷ m) s) in
-    rw less (ap (λ r. y ∷ r) (put_last l m p (tail_sorted prop_total y (l ++ p ∷ m) s)))
-
-pub none_equal : (l m : List Prop) (p : Prop) → IsStrictlySorted prop_cmp (l ++ p ∷ m) → Any (λ q. prop_cmp q p ≡ Equal) l → ⊥
-none_equal [] m p s (k, q, lt, at, same) = omega (arith, lt)
-none_equal (y ∷ l) m p s (zero, q, lt, at, same) =
-    let less : prop_cmp y p ≡ Less = below_at y p l m (first_below y (l ++ p ∷ m) s) in
-    let equal : prop_cmp y p ≡ Equal = subst (λ x. prop_cmp x p ≡ Equal) (sym at) same in
-    cc
-none_equal (y ∷ l) m p s (suc k, q, lt, at, same) = none_equal l m p (tail_sorted prop_total y (l ++ p ∷ m) s) (k, q, omega (arith, lt), at, same)
 
 -- ---- the calls
 

@@ -6,7 +6,7 @@ ghost use Rattle.tree_edit.specs.Changes.{IsCauseOf, in_turn, on_attachments};
 
 use crate::chunked_list::ChunkedList;
 use crate::editable::{Editable, edit_in_turn};
-use crate::editing::{OnceEnd, empty, place_in};
+use crate::editing::{OnceEnd, place_in};
 use crate::ends::EditWhy;
 use carrier_io::{Holds, NoMemory};
 use edit_words::{Edit, EditRun};
@@ -50,7 +50,7 @@ impl<C: Holds<Vec<u8>>> Editable for Attachments<C> {
     fn take_form(&mut self, alloc: Global) -> Result<Self::Form, NoMemory> {
         let mut chunks = ChunkedList::new(alloc);
         for k in 0..self.len() {
-            chunks.push(alloc, self.replace(k, empty(alloc)))?;
+            chunks.push(alloc, self.replace(k, Attachment::empty(alloc)))?;
         }
         Ok(chunks)
     }

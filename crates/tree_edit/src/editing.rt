@@ -12,7 +12,7 @@ use crate::attachment_chunks::edit_attachments;
 use crate::ends::EditWhy;
 use crate::lists::edit_props;
 use crate::recipient_chunks::edit_recipients;
-use carrier_io::{Blob, Holds, NoMemory};
+use carrier_io::{Holds, NoMemory};
 use edit_words::{Edit, EditRun, Part, Spot};
 use msg_tree::{Attachment, Attachments, Body, Message, Recipients};
 use prop_values::Props;
@@ -44,14 +44,6 @@ pub fn place_in(number: u64, count: usize) -> Result<usize, OnceEnd>
         Ok(number as usize)
     } else {
         Err(OnceEnd::Cannot(EditWhy::NoPlace))
-    }
-}
-
-/// An attachment without anything.
-pub fn empty<B: Blob>(alloc: Global) -> Attachment<B> {
-    Attachment {
-        props: Props::new(alloc),
-        body: Body::Plain,
     }
 }
 
@@ -87,7 +79,7 @@ fn edit_attachment<C: Holds<Vec<u8>>>(
     ensures err { IfErr result (IsCauseOf (changed_at (with_props (on_props (edit_of edit))) number (list_of C.bytes attachments.old))) }
 {
     let k = place_in(number, attachments.len())?;
-    let mut held = attachments.replace(k, empty(alloc));
+    let mut held = attachments.replace(k, Attachment::empty(alloc));
     let count = edit_props(alloc, &mut held.props, edit, behind)?;
     drop(attachments.replace(k, held));
     Ok(count)
@@ -173,7 +165,7 @@ fn edit_in_attachment<C: Holds<Vec<u8>>>(
     ensures err { IfErr result (IsCauseOf (changed_at (with_body (at_path (on_part (part_of (edit_of edit)) (edit_of edit) []) (drop at (path_of (edit_of edit))))) number (list_of C.bytes attachments.old))) }
 {
     let k = place_in(number, attachments.len())?;
-    let mut held = attachments.replace(k, empty(alloc));
+    let mut held = attachments.replace(k, Attachment::empty(alloc));
     let count = edit_in_body(alloc, &mut held.body, at, edit, behind)?;
     drop(attachments.replace(k, held));
     Ok(count)

@@ -3,8 +3,6 @@ ghost use Rattle.std.specs.Prelude.{◌≡◌, IfOk};
 ghost use Rattle.msg_tree.specs.Meaning.{attached_of, body_of, list_of, tree_of};
 ghost use Rattle.msg_tree.specs.Whole.{plain_of};
 
-use crate::editing::empty;
-use crate::prop_changes::put_last;
 use carrier_io::{Blob, Holds, NoMemory};
 use msg_tree::{Attachment, Attachments, Body, Message, Recipients, Tree, held_store};
 use prop_values::Props;
@@ -15,7 +13,7 @@ fn held_props<B: Blob, C: Holds<B>>(alloc: Global, props: Props<B>) -> Result<Pr
 {
     let mut all = Props::with_capacity(alloc, props.len())?;
     for prop in props.into_list() {
-        put_last(&mut all, prop.into_held(alloc)?)?;
+        all.push_last(prop.into_held(alloc)?)?;
     }
     Ok(all)
 }
@@ -62,7 +60,7 @@ fn held_attachments<B: Blob, C: Holds<B>>(
 {
     let mut all = Attachments::with_capacity(alloc, list.len())?;
     for k in 0..list.len() {
-        let attachment = list.replace(k, empty(alloc));
+        let attachment = list.replace(k, Attachment::empty(alloc));
         all.push(held_attachment(alloc, attachment)?)?;
     }
     Ok(all)

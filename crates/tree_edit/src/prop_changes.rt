@@ -11,7 +11,7 @@ ghost use Rattle.tree_edit.specs.PropChanges.{AreChanges, first_order, first_put
 
 use carrier_io::{Blob, NoMemory};
 use prop_names::Key;
-use prop_values::{InsertEnd, Kind, Prop, Props};
+use prop_values::{Kind, Prop, Props};
 use std::alloc::Global;
 use std::cmp::Ordering;
 use std::collections::BTreeMap;
@@ -193,7 +193,7 @@ impl<C: Blob> PropChanges<C> {
                     next = items.next();
                 }
                 Ordering::Greater => {
-                    put_last(&mut merged, prop)?;
+                    merged.push_last(prop)?;
                     next = items.next();
                 }
             }
@@ -213,18 +213,6 @@ fn order_of_first<C: Blob>(changes: &BTreeMap<Pair, Option<Prop<C>>>, prop: &Pro
     }
 }
 
-/// Puts a property behind those of a list, which are below it.
-pub fn put_last<C: Blob>(list: &mut Props<C>, prop: Prop<C>) -> Result<(), NoMemory>
-    requires { (rest : List PlainProp) × IsStrictlySorted prop_cmp (list.old ++ prop ∷ rest) }
-    ensures { OnOk result (list.new ≡ list.old ++ prop ∷ []) }
-{
-    match list.insert_sorted(prop) {
-        Ok(()) => Ok(()),
-        Err(InsertEnd::NoMemory) => Err(NoMemory),
-        Err(InsertEnd::Duplicate(_)) => unreachable!(),
-    }
-}
-
 /// Takes the first change out, and puts its property behind those of a list.
 fn put_first<C: Blob>(
     list: &mut Props<C>,
@@ -237,7 +225,7 @@ fn put_first<C: Blob>(
 {
     match changes.pop_first() {
         Some((_, change)) => match change {
-            Some(prop) => put_last(list, prop),
+            Some(prop) => list.push_last(prop),
             None => Ok(()),
         },
         None => Ok(()),

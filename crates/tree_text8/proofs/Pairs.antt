@@ -1,18 +1,18 @@
 -- Whether a list has a property with a key and a kind, and a list that grows at its end.
-use Rattle.std.proofs.Common.{◌≡◌, ◌∙◌, refl, sym, ap, subst, ℕ, zero, suc, ◌<◌, Bool, true, false, List, [], ◌∷◌, ◌++◌, length, take, map, get_or, arith, length-take-le}
+use Rattle.std.proofs.Common.{◌≡◌, ◌∙◌, refl, sym, ap, subst, ℕ, zero, suc, ◌+◌, Bool, true, false, List, [], ◌∷◌, ◌++◌, take, drop, map, take-append-drop}
 use Rattle.std.specs.Prelude.{All, Option, Some, None, IfSome, IfNone, is_none, is_some, slice_get, ◌||◌, not}
 use Rattle.std.specs.declared.cmp.Ordering.{Ordering}
 use Rattle.std.specs.declared.cmp.Ordering.TheVariants.{Less, Equal, Greater}
-use Rattle.std.proofs.lemmas.List.{get_or-map, get_or-take, length-map}
+use Rattle.std.proofs.lemmas.List.{map-append}
 use Rattle.std.proofs.lemmas.List.Elements.{All-head, All-tail}
-use Rattle.std.proofs.lemmas.Option.{slice_get_within, get_or_from_slice_get}
 use Rattle.carrier_model.specs.Keys.{Key}
-use Rattle.carrier_model.specs.Sorted.{choose, IsStrictlySorted, with_element}
+use Rattle.carrier_model.specs.Sorted.{choose, IsStrictlySorted}
 use Rattle.carrier_model.specs.Values.{Prop, IsProp, Value, prop_cmp, with_pair, HasPair}
 use Rattle.carrier_model.proofs.OrderLaws.{props_exactly}
-use Rattle.prop_values.specs.Ends.{HasPairOf}
+use Rattle.carrier_model.proofs.SortedLists.{sorted_to}
+use Rattle.carrier_model.proofs.Trees.{drop_at}
 use Rattle.text8_model.specs.Pages.{Page}
-use Rattle.text8_model.specs.Unicode.{has_pair, lacks, is_to_convert, wide_value, bad_value, converted_prop, converted_props}
+use Rattle.text8_model.specs.Unicode.{has_pair, lacks, is_to_convert, wide_value, bad_value, converted_prop}
 use Rattle.text8_model.proofs.KeptLaws.{sorted_kept, value_fits}
 use Rattle.text8_model.proofs.ValueLaws.{wide_found}
 
@@ -61,30 +61,12 @@ wide_fits page props p key value is good h k v =
     let fits = value_fits page props p.key p.value (wide_value page p.value) is (wide_found page props p.key p.value 0 0 is good) h.value in
     (λ (e : IsProp (record { key = p.key; value = wide_value page p.value })). subst IsProp (λ i. record { key = sym k i; value = sym v i }) e) (record { key = h.key; value = fits })
 
--- ---- behind all others
+-- ---- one more behind the others
 
-pub put_last : (all : List Prop) (p : Prop) → All (λ q. prop_cmp q p ≡ Less) all → with_element prop_cmp all p ≡ all ++ p ∷ []
-put_last [] p below = refl
-put_last (q ∷ qs) p below =
-    let less : prop_cmp q p ≡ Less = All-head (λ r. prop_cmp r p ≡ Less) q qs below in
-    let rest = put_last qs p (All-tail (λ r. prop_cmp r p ≡ Less) q qs below) in
-    ap (λ o. choose o (q ∷ with_element prop_cmp qs p) (q ∷ qs) (p ∷ q ∷ qs)) less ∙ ap (λ l. q ∷ l) rest
-
-pub never_double : (all : List Prop) (p : Prop) → All (λ q. prop_cmp q p ≡ Less) all → HasPairOf all p → ⊥
-never_double all p below (k, q, lt, is, same) =
-    let less : prop_cmp (get_or all k q) p ≡ Less = below k q lt in
-    let equal : prop_cmp (get_or all k q) p ≡ Equal = ap (λ r. prop_cmp r p) is ∙ same in
-    let wrong : Less ≡ Equal = sym less ∙ equal in
-    cc
-
-pub next_above : (code : ℕ) (props all : List Prop) (k : ℕ) (p q : Prop) → IsStrictlySorted prop_cmp props → slice_get props k ≡ Some p → all ≡ map (converted_prop code props) (take k props) → q ≡ converted_prop code props p → All (λ r. prop_cmp r q ≡ Less) all
-next_above code props all k p q sorted at made is i d lt =
+pub next_sorted : (code : ℕ) (props all : List Prop) (k : ℕ) (p q : Prop) → IsStrictlySorted prop_cmp props → slice_get props k ≡ Some p → all ≡ map (converted_prop code props) (take k props) → q ≡ converted_prop code props p → IsStrictlySorted prop_cmp (all ++ q ∷ [])
+next_sorted code props all k p q sorted at made is =
     let f = converted_prop code props in
-    let here : k < length props = slice_get_within props k p at in
-    let long : length all ≡ k = ap length made ∙ (length-map (take k props) f ∙ length-take-le k props (omega (arith, here))) in
-    let under : i < k = omega (arith, lt, long) in
-    let whole : length (converted_props code props) ≡ length props = length-map props f in
-    let less : prop_cmp (get_or (converted_props code props) i d) (get_or (converted_props code props) k d) ≡ Less = sorted_kept code props sorted i k d under (omega (arith, here, whole)) in
-    let one : get_or all i d ≡ get_or (converted_props code props) i d = ap (λ l. get_or l i d) made ∙ (get_or-map f (take k props) i p d (omega (arith, under, length-take-le k props (omega (arith, here)))) ∙ (ap f (get_or-take k props i p under) ∙ sym (get_or-map f props i p d (omega (arith, under, here))))) in
-    let other : q ≡ get_or (converted_props code props) k d = is ∙ (ap f (sym (get_or_from_slice_get props k p p at)) ∙ sym (get_or-map f props k p d here)) in
-    (λ j. prop_cmp (one j) (other j)) ∙ less
+    let rest = map f (drop (k + 1) props) in
+    let split : map f props ≡ map f (take k props) ++ f p ∷ rest = ap (map f) (sym (take-append-drop k props) ∙ ap (λ l. take k props ++ l) (drop_at props k p at)) ∙ map-append f (take k props) (p ∷ drop (k + 1) props) in
+    let whole : map f props ≡ all ++ q ∷ rest = split ∙ λ i. sym made i ++ sym is i ∷ rest in
+    sorted_to prop_cmp all rest q (subst (IsStrictlySorted prop_cmp) whole (sorted_kept code props sorted))

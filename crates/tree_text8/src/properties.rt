@@ -1,5 +1,5 @@
 //! Properties whose texts are converted.
-ghost use Rattle.std.specs.Prelude.{◌≡◌, ◌+◌, ◌++◌, ◌∷◌, [], length, map, List, All, IsTrue, OnOk, IfOk, IfErr};
+ghost use Rattle.std.specs.Prelude.{◌≡◌, ◌+◌, [], length, map, List, IsTrue, OnOk, IfOk, IfErr};
 ghost use Rattle.std.specs.Option.{option_map};
 ghost use Rattle.carrier_model.specs.Sorted.{IsStrictlySorted};
 ghost use Rattle.carrier_model.specs.Values.{Prop as PlainProp, prop_cmp};
@@ -14,9 +14,8 @@ use crate::ends::{TextEnd, Unmapped, Why};
 use crate::pages::page_of;
 use crate::values::wide_value;
 use carrier_io::{Blob, Holds, NoMemory};
-use prop_values::{InsertEnd, Kind, Prop, Props, Value};
+use prop_values::{Kind, Prop, Props, Value};
 use std::alloc::Global;
-use std::cmp::Ordering;
 use std::mem::replace;
 
 /// The kind of what a text of 8-bit characters becomes; None for other values. [MS-OXCDATA 2.11.1]
@@ -95,18 +94,6 @@ fn convert_prop<C: Holds<Vec<u8>>>(
     }
 }
 
-/// Puts a property behind those of a list, which come before it by key and kind.
-fn append<C: Blob>(all: &mut Props<C>, prop: Prop<C>) -> Result<(), NoMemory>
-    requires { All (λ q. prop_cmp q prop ≡ Ordering.Less) all.old }
-    ensures { OnOk result (all.new ≡ all.old ++ prop ∷ []) }
-{
-    match all.insert_sorted(prop) {
-        Ok(()) => Ok(()),
-        Err(InsertEnd::NoMemory) => Err(NoMemory),
-        Err(InsertEnd::Duplicate(_)) => unreachable!(),
-    }
-}
-
 /// Whether any property of a list is converted.
 pub(crate) fn any_to_convert<B: Blob>(props: &Props<B>) -> bool
     ensures value { result ≡ are_narrow props.now }
@@ -138,7 +125,7 @@ fn convert_each<C: Holds<Vec<u8>>>(
     for prop in props.into_list() {
         let number = first.saturating_add(k as u64);
         let prop = convert_prop(alloc, code, prop, marks[k], number)?;
-        append(&mut all, prop)?;
+        all.push_last(prop)?;
         k += 1;
     }
     Ok(all)

@@ -44,14 +44,6 @@ fn page_in<B: Blob>(outer: u32, props: &Props<B>) -> u32
     outer
 }
 
-/// An attachment without anything.
-fn empty<B: Blob>(alloc: Global) -> Attachment<B> {
-    Attachment {
-        props: Props::new(alloc),
-        body: Body::Plain,
-    }
-}
-
 /// Converts the texts of recipients into units. `next` is the number of the first property, as in all of these, and what
 /// isn't converted wholly is of no use.
 fn convert_recipients<C: Holds<Vec<u8>>>(
@@ -105,7 +97,7 @@ fn convert_attachments<C: Holds<Vec<u8>>>(
     ensures end { IfErr result (IsEndOf (plain.bad_below code next.old (attachments_from (list_of C.bytes list.old)))) }
 {
     for k in 0..list.len() {
-        let mut held = list.replace(k, empty(alloc));
+        let mut held = list.replace(k, Attachment::empty(alloc));
         convert_attachment(alloc, code, &mut held, next)?;
         drop(list.replace(k, held));
     }

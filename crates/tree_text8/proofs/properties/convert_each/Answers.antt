@@ -7,7 +7,7 @@ use Rattle.text8_model.specs.Unicode as plain
 use Rattle.tree_text8.specs.Walks.{bad_where, converted_where}
 use Rattle.tree_text8.proofs.Elements.{made_more}
 use Rattle.tree_text8.proofs.Numbers.{told_at}
-use Rattle.tree_text8.proofs.Pairs.{next_above}
+use Rattle.tree_text8.proofs.Pairs.{next_sorted}
 use Rattle.tree_text8.proofs.Turns.{turn_left, turn_count, turn_counted, end_left, next_at, mark_at, whole_taken, none_left}
 use Rattle.tree_text8.proofs.Walked.{list_good, list_end, end_as}
 use Rattle.tree_text8.proofs.properties.convert_each.Goals as goal
@@ -35,12 +35,12 @@ returns-in_err-prop-clause-end g c =
     let end = end_as (bad_where c.index.result.now c.args.code number c.in-Some.prop) (plain.bad_prop c.args.code c.args.props number c.in-Some.prop) c.in_err-prop.field-0.0 (ap (λ b. bad_where b c.args.code number c.in-Some.prop) (sym mark)) c.in_err-prop.ensures.end in
     rw (p.1, p.2) (list_end c.args.code c.args.props c.args.first c.loop-prop.k number c.in-Some.prop at (told_at c.args.first c.loop-prop.k number c.saturating_add-number.ensures) c.in_err-prop.field-0.0 end c.loop-prop.invariant.bad)
 
-pub append-requires : goal.append-requires
-append-requires g c =
+pub push_last-requires : goal.push_last-requires
+push_last-requires g c =
     let left = turn_left c.loop-prop.yielded c.in-Some.prop c.next.new.self.rest.items c.loop-prop.prop-iterator.rest.items c.args.props c.in-Some.ensures.steps.0 c.loop-prop.invariant.left in
     let at : slice_get c.args.props c.loop-prop.k ≡ Some c.in-Some.prop = next_at c.loop-prop.yielded c.in-Some.prop c.next.new.self.rest.items c.args.props c.loop-prop.k left c.loop-prop.invariant.count in
     let mark : plain.is_to_convert c.args.props c.in-Some.prop ≡ c.index.result.now = mark_at (plain.is_to_convert c.args.props) c.args.props c.loop-prop.k c.in-Some.prop c.in_ok-marks.marks.items c.index.result.now at c.in_ok-marks.ensures c.index.ensures in
-    next_above c.args.code c.args.props c.loop-prop.all c.loop-prop.k c.in-Some.prop c.in_ok-prop.prop c.requires at c.loop-prop.invariant.made (c.in_ok-prop.ensures.ok ∙ ap (λ b. converted_where b c.args.code c.in-Some.prop) (sym mark))
+    next_sorted c.args.code c.args.props c.loop-prop.all c.loop-prop.k c.in-Some.prop c.in_ok-prop.prop c.requires at c.loop-prop.invariant.made (c.in_ok-prop.ensures.ok ∙ ap (λ b. converted_where b c.args.code c.in-Some.prop) (sym mark))
 
 pub loop-prop-preserved : goal.loop-prop-preserved
 loop-prop-preserved g c =
@@ -54,7 +54,7 @@ loop-prop-preserved g c =
       left = left;
       count = turn_count c.loop-prop.yielded c.in-Some.prop c.loop-prop.k c.loop-prop.invariant.count;
       counted = turn_counted c.in-Some.prop c.next.new.self.rest.items c.loop-prop.prop-iterator.rest.items c.loop-prop.prop-iterator.rest.len c.next.new.self.rest.len c.in-Some.ensures.steps.0 c.in-Some.ensures.steps.1 c.loop-prop.invariant.counted;
-      made = made_more (plain.converted_prop c.args.code c.args.props) c.args.props c.loop-prop.k c.in-Some.prop c.loop-prop.all _ c.loop-prop.invariant.made at (c.in_ok-append.ensures ∙ ap (λ q. c.loop-prop.all ++ q ∷ []) converted);
+      made = made_more (plain.converted_prop c.args.code c.args.props) c.args.props c.loop-prop.k c.in-Some.prop c.loop-prop.all _ c.loop-prop.invariant.made at (c.in_ok-push_last.ensures.ok ∙ ap (λ q. c.loop-prop.all ++ q ∷ []) converted);
       bad = list_good c.args.code c.args.props c.args.first c.loop-prop.k number c.in-Some.prop at (told_at c.args.first c.loop-prop.k number c.saturating_add-number.ensures) good c.loop-prop.invariant.bad;
     }
 

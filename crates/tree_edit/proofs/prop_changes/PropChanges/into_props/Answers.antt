@@ -2,6 +2,7 @@ use Rattle.std.proofs.Common.{◌∷◌, ◌++◌, [], drop, ap, refl, sym, subs
 use Rattle.std.specs.Vec.Iter.{into_iter_items}
 use Rattle.carrier_model.specs.Sorted.{IsStrictlySorted}
 use Rattle.carrier_model.specs.Values.{prop_cmp}
+use Rattle.carrier_model.proofs.SortedLists.{sorted_to}
 use Rattle.tree_edit.specs.PropChanges.{AreChanges, first_put, with_changes}
 use Rattle.tree_edit.proofs.PropChanges.{after_put, at_last, counted_on, left_sorted, named_sorted, rest_changes, spent, step_less, step_equal, step_greater, whole_sorted}
 use Rattle.tree_edit.proofs.prop_changes.PropChanges.into_props.Goals as goal
@@ -45,13 +46,13 @@ loop-next-preserved-in-Equal g c =
       ended = spent c.next-next-in-Equal.result _ _ (into_iter_items c.next-next-in-Equal.new.self) _ given.cases counted;
     }
 
-pub put_last-requires : goal.put_last-requires
-put_last-requires g c =
+pub push_last-requires : goal.push_last-requires
+push_last-requires g c =
     let l = c.loop-next in
     let cs = l.changes.entries in
     let made = step_greater l.merged c.args.self cs l.next c.in-Some.prop (into_iter_items l.items) l.invariant.whole c.in-Some.is l.invariant.own l.invariant.ordered (sym c.in-Greater.ensures) in
     let sorted = subst (IsStrictlySorted prop_cmp) c.self.view_is (whole_sorted c.self.inside.changes.entries c.self.inside.list c.self.invariant.1 c.self.invariant.0) in
-    (with_changes cs (into_iter_items l.items), subst (IsStrictlySorted prop_cmp) (sym made) sorted)
+    sorted_to prop_cmp l.merged (with_changes cs (into_iter_items l.items)) c.in-Some.prop (subst (IsStrictlySorted prop_cmp) (sym made) sorted)
 
 pub loop-next-preserved : goal.loop-next-preserved
 loop-next-preserved g c =
@@ -61,7 +62,7 @@ loop-next-preserved g c =
     let counted = counted_on c.next-next-in-Greater.result _ (into_iter_items c.next-next-in-Greater.new.self) _ _ given.items given.len l.invariant.counted in
     let made = step_greater l.merged c.args.self cs l.next c.in-Some.prop (into_iter_items l.items) l.invariant.whole c.in-Some.is l.invariant.own l.invariant.ordered (sym c.in-Greater.ensures) in
     record {
-      whole = after_put l.merged (c.in-Some.prop ∷ []) c.put_last.new.list c.args.self cs cs _ c.in_ok-put_last-in-Greater.ensures refl (ap (λ m. l.merged ++ c.in-Some.prop ∷ with_changes cs m) (sym given.items) ∙ made);
+      whole = after_put l.merged (c.in-Some.prop ∷ []) c.push_last.new.self c.args.self cs cs _ c.in_ok-push_last-in-Greater.ensures.ok refl (ap (λ m. l.merged ++ c.in-Some.prop ∷ with_changes cs m) (sym given.items) ∙ made);
       own = l.invariant.own;
       ordered = l.invariant.ordered;
       sorted = left_sorted l.next c.in-Some.prop (into_iter_items l.items) _ c.in-Some.is given.items l.invariant.sorted;
