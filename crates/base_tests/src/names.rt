@@ -63,8 +63,8 @@ fn numbers_in_print(rt: HostRuntime) -> Result<(), Fail> {
 
 #[test]
 fn digits_are_read(rt: HostRuntime) -> Result<(), Fail> {
-    assert_eq!(rt; number_of_four(b"0E1D"), Some(0x0e1d));
-    assert_eq!(rt; number_of_eight(b"3701000D"), Some(0x3701_000d));
+    let numbers = (number_of_four(b"0E1D"), number_of_eight(b"3701000D"));
+    assert_eq!(rt; numbers, (Some(0x0e1d), Some(0x3701_000d)));
     for wrong in [b"0e1d", b"0E1G", b"0E1/"] {
         assert_eq!(rt; number_of_four(wrong), None);
     }
@@ -81,13 +81,15 @@ fn digits_are_read(rt: HostRuntime) -> Result<(), Fail> {
 
 #[test]
 fn siblings_in_order(rt: HostRuntime) -> Result<(), Fail> {
-    assert_eq!(rt; sibling_order(&[0x62], &[0x61, 0x61]), Ordering::Less);
-    assert_eq!(rt;
-        sibling_order(&[0x61, 0x5a], &[0x41, 0x7a]),
-        Ordering::Equal
-    );
-    assert_eq!(rt; sibling_order(&[0x61], &[0x5f]), Ordering::Less);
-    assert_eq!(rt; sibling_order(&[0xe4], &[0xc4]), Ordering::Greater);
+    let table = [
+        (&[0x62][..], &[0x61, 0x61][..], Ordering::Less),
+        (&[0x61, 0x5a][..], &[0x41, 0x7a][..], Ordering::Equal),
+        (&[0x61][..], &[0x5f][..], Ordering::Less),
+        (&[0xe4][..], &[0xc4][..], Ordering::Greater),
+    ];
+    for (one, other, order) in table {
+        assert_eq!(rt; sibling_order(one, other), order);
+    }
     let mut name = [0; 23];
     for k in 0..23 {
         name[k] = u16::from(b"__PROPERTIES_version1.0"[k]);
@@ -119,9 +121,8 @@ fn names_in_order(rt: HostRuntime) -> Result<(), Fail> {
     set.insert(&word)?;
     set.insert(&number)?;
     set.insert(&word)?;
-    assert_eq!(rt; set.len(), 2);
-    assert_eq!(rt; set.position(&number), Some(0));
-    assert_eq!(rt; set.position(&word), Some(1));
+    let places = (set.position(&number), set.position(&word));
+    assert_eq!(rt; (set.len(), places), (2, (Some(0), Some(1))));
     let copy = word.copy(rt.alloc())?;
     assert_eq!(rt; Key::Named(copy).order(&Key::Named(word)), Ordering::Equal);
     Ok(())
@@ -142,8 +143,7 @@ fn a_set_of_some_names(rt: HostRuntime) -> Result<(), Fail> {
     let second = low.copy(rt.alloc())?;
     let names = vec![in rt.alloc(); first, second, again]?;
     let set = NameSet::of(rt.alloc(), names);
-    assert_eq!(rt; set.len(), 2);
-    assert_eq!(rt; set.position(&low), Some(0));
-    assert_eq!(rt; set.position(&high), Some(1));
+    let places = (set.position(&low), set.position(&high));
+    assert_eq!(rt; (set.len(), places), (2, (Some(0), Some(1))));
     Ok(())
 }

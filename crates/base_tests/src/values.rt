@@ -48,12 +48,14 @@ fn a_double_comes_back(rt: HostRuntime) -> Result<(), Fail> {
         _ => false,
     };
     assert!(rt; handed_back);
-    assert_eq!(rt; list.len(), 1);
-    assert!(rt; same_prop(list.get(0), &integer(0x0017, 1)));
-    assert_eq!(rt; list.find(&Key::Id(0x0017), Kind::Integer32), Some(0));
-    assert_eq!(rt; list.find(&Key::Id(0x0017), Kind::Integer16), None);
-    assert!(rt; list.has_id(0x0017));
-    assert!(rt; !list.has_id(0x0018));
+    assert!(rt; list.len() == 1 && same_prop(list.get(0), &integer(0x0017, 1)));
+    let key = Key::Id(0x0017);
+    let found = (
+        list.find(&key, Kind::Integer32),
+        list.find(&key, Kind::Integer16),
+    );
+    assert_eq!(rt; found, (Some(0), None));
+    assert_eq!(rt; (list.has_id(0x0017), list.has_id(0x0018)), (true, false));
     assert_eq!(rt; list.get(0).order(&integer(0x0018, 0)), Ordering::Less);
     Ok(())
 }
@@ -110,11 +112,15 @@ fn lists_of_three_blobs(rt: HostRuntime) -> Result<(), Fail> {
 
 #[test]
 fn kinds(rt: HostRuntime) -> Result<(), Fail> {
-    assert_eq!(rt; kind_of(0x101f), Some(Kind::MultipleString));
-    assert_eq!(rt; kind_of(0x000d), None);
-    assert_eq!(rt; Kind::MultipleTime.number(), 0x1040);
-    assert_eq!(rt; Kind::MultipleTime.name(), "MultipleTime");
-    assert_eq!(rt; Kind::MultipleTime.width(), Some(8));
+    assert_eq!(rt;
+        (kind_of(0x101f), kind_of(0x000d)),
+        (Some(Kind::MultipleString), None)
+    );
+    let times = Kind::MultipleTime;
+    assert_eq!(rt;
+        (times.number(), times.name(), times.width()),
+        (0x1040, "MultipleTime", Some(8))
+    );
     assert_eq!(rt; Kind::MultipleString.shape(), Shape::Parts(Kind::String));
     assert_eq!(rt;
         (

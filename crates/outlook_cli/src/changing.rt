@@ -11,12 +11,12 @@ use crate::telling::stopped;
 use carrier_io::{Blob, Holds, NoMemory, Sink};
 use cfb_sectors::StreamView;
 use edit_words::Edits;
-use msg_tree::Tree;
+use msg_tree::{Tree, held_tree};
 use outlook_status::Status;
 use std::alloc::Global;
 use tnef_message::Held;
 use translate_core::{Input, PutEnd, accept, write_msg};
-use tree_edit::{EditEnd, edit_in_place, held_tree};
+use tree_edit::{EditEnd, edit_in_place};
 use tree_text8::{TextEnd, is_unicode, unicode_in_place};
 
 /// Writes the .msg file of a message. [MS-OXMSG 2.3]

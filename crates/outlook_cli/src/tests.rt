@@ -10,6 +10,7 @@ use crate::run::run;
 use carrier_io::{Fault, MemorySink, MemorySource, Reason};
 use outlook_status::Status;
 use std::test::*;
+use stream::listed;
 
 /// A stream with the code page 1252 and one property, id 0017 and value 2.
 pub(crate) const ONE_PROPERTY: [u8; 63] = [
@@ -17,11 +18,6 @@ pub(crate) const ONE_PROPERTY: [u8; 63] = [
     0x00, 0x01, 0x00, 0x01, 0x00, 0x01, 0x07, 0x90, 0x06, 0x00, 0x08, 0x00, 0x00, 0x00, 0xe4, 0x04,
     0x00, 0x00, 0x00, 0x00, 0x00, 0x00, 0xe8, 0x00, 0x01, 0x03, 0x90, 0x06, 0x00, 0x0c, 0x00, 0x00,
     0x00, 0x01, 0x00, 0x00, 0x00, 0x03, 0x00, 0x17, 0x00, 0x02, 0x00, 0x00, 0x00, 0x1d, 0x00,
-];
-
-/// The attribute of a list without properties.
-const NO_PROPERTIES: [u8; 15] = [
-    0x01, 0x03, 0x90, 0x06, 0x00, 0x04, 0x00, 0x00, 0x00, 0x00, 0x00, 0x00, 0x00, 0x00, 0x00,
 ];
 
 /// How a run ended, what it wrote and what it reported.
@@ -115,10 +111,8 @@ pub(crate) fn write(
 #[test]
 fn streams_are_translated(rt: HostRuntime) -> Result<(), Fail> {
     write(&rt, "to-tnef", &ONE_PROPERTY, &ONE_PROPERTY)?;
-    let mut without = ONE_PROPERTY[..40].to_vec(rt.alloc())?;
-    without.extend_from_slice(&NO_PROPERTIES)?;
     let empty = [0x78, 0x9f, 0x3e, 0x22, 0x00, 0x00];
-    write(&rt, "to-tnef", &empty, &without)
+    write(&rt, "to-tnef", &empty, &listed(&rt, &[0; 4])?)
 }
 
 #[test]
@@ -135,9 +129,7 @@ fn streams_are_refused(rt: HostRuntime) -> Result<(), Fail> {
 fn other_words_are_usage(rt: HostRuntime) -> Result<(), Fail> {
     for words in ["to-msg x", "", "sample 007"] {
         let got = run_over(&rt, words, &ONE_PROPERTY, &[0], &[])?;
-        assert!(rt; matches!(got.status, Status::Usage));
-        assert_eq!(rt; got.status.code(), 2);
-        assert_eq!(rt; got.output.len(), 0);
+        assert_eq!(rt; (got.status.code(), got.output.len()), (2, 0));
         assert_eq!(rt;
             got.report.as_slice(),
             &b"usage: show, check, to-msg, to-msg4, to-tnef, wrap, unwrap, to-unicode, to-json, from-json, edit EDITS, or sample N\n"[..]
@@ -148,13 +140,14 @@ fn other_words_are_usage(rt: HostRuntime) -> Result<(), Fail> {
 
 #[test]
 fn devices_that_fail(rt: HostRuntime) -> Result<(), Fail> {
-    let got = run_over(&rt, "to-tnef", &ONE_PROPERTY, &[0], &[])?;
-    assert!(rt; matches!(got.status, Status::ReadFault));
-    assert_eq!(rt; got.output.len(), 0);
-    assert_eq!(rt; got.report.as_slice(), &b"read fault\n"[..]);
-    let got = run_over(&rt, "to-tnef", &ONE_PROPERTY, &[], &[0])?;
-    assert!(rt; matches!(got.status, Status::WriteFault));
-    assert_eq!(rt; got.output.len(), 0);
-    assert_eq!(rt; got.report.as_slice(), &b"write fault\n"[..]);
+    let table = [
+        (&[0][..], &[][..], 4, &b"read fault\n"[..]),
+        (&[][..], &[0][..], 5, &b"write fault\n"[..]),
+    ];
+    for (reads, writes, code, line) in table {
+        let got = run_over(&rt, "to-tnef", &ONE_PROPERTY, reads, writes)?;
+        assert_eq!(rt; (got.status.code(), got.output.len()), (code, 0));
+        assert_eq!(rt; got.report.as_slice(), line);
+    }
     Ok(())
 }

@@ -1,7 +1,6 @@
 mod ChunkLists
 mod Composed
 mod Found
-mod HandedOn
 mod Made
 mod PropChanges
 mod Once

@@ -6,7 +6,6 @@ mod chunked_list;
 mod editable;
 mod editing;
 mod ends;
-mod held;
 mod lists;
 mod prop_changes;
 mod recipient_chunks;
@@ -14,5 +13,4 @@ mod runs;
 mod whole;
 
 pub use ends::{EditEnd, EditFault, EditWhy};
-pub use held::held_tree;
 pub use whole::{edit_in_place, edited};

@@ -44,9 +44,7 @@ fn with_binary(rt: &HostRuntime, size: u16) -> Result<Vec<u8>, Fail> {
         &[1, 0, 0, 0, 0x02, 0x01, 0x13, 0x10, 1, 0, 0, 0],
     )?;
     list.extend_from_slice(&le32(u32::from(size)))?;
-    for _ in 0..4096 {
-        list.push(0)?;
-    }
+    list.extend_from_slice(&[0; 4096])?;
     listed(rt, &list)
 }
 

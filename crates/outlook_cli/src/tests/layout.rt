@@ -137,9 +137,7 @@ fn entry_name(rt: &HostRuntime, name: &str) -> Result<Vec<u8>, Fail> {
         field.extend_from_slice(&[*letter, 0])?;
     }
     let size = u8::try_from(field.len())?;
-    for _ in field.len()..64 {
-        field.push(0)?;
-    }
+    field.resize(64, 0)?;
     field.extend_from_slice(&[size.wrapping_add(2), 0])?;
     Ok(field)
 }

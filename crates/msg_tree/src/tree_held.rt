@@ -1,36 +1,13 @@
-//! Trees over blobs that hold those of others: edits need blobs that owned bytes become too.
+//! Trees over blobs that hold those of others.
 ghost use Rattle.std.specs.Prelude.{◌≡◌, IfOk};
 ghost use Rattle.msg_tree.specs.Meaning.{attached_of, body_of, list_of, tree_of};
 ghost use Rattle.msg_tree.specs.Whole.{plain_of};
 
+use crate::bounded::Tree;
+use crate::messages::{Attachment, Attachments, Body, Message};
+use crate::store_held::held_store;
 use carrier_io::{Blob, Holds, NoMemory};
-use msg_tree::{Attachment, Attachments, Body, Message, Recipients, Tree, held_store};
-use prop_values::Props;
 use std::alloc::Global;
-
-fn held_props<B: Blob, C: Holds<B>>(alloc: Global, props: Props<B>) -> Result<Props<C>, NoMemory>
-    ensures { IfOk result (λ r. r ≡ props) }
-{
-    let mut all = Props::with_capacity(alloc, props.len())?;
-    for prop in props.into_list() {
-        all.push_last(prop.into_held(alloc)?)?;
-    }
-    Ok(all)
-}
-
-fn held_recipients<B: Blob, C: Holds<B>>(
-    alloc: Global,
-    mut recipients: Recipients<B>,
-) -> Result<Recipients<C>, NoMemory>
-    ensures { IfOk result (λ r. r ≡ recipients) }
-{
-    let mut all = Recipients::with_capacity(alloc, recipients.len())?;
-    for k in 0..recipients.len() {
-        let props = recipients.replace(k, Props::new(alloc));
-        all.push(held_props(alloc, props)?)?;
-    }
-    Ok(all)
-}
 
 #[cycle(held)]
 fn held_message<B: Blob, C: Holds<B>>(
@@ -45,8 +22,8 @@ fn held_message<B: Blob, C: Holds<B>>(
         attachments,
     } = message;
     Ok(Message {
-        props: held_props(alloc, props)?,
-        recipients: held_recipients(alloc, recipients)?,
+        props: props.into_held(alloc)?,
+        recipients: recipients.into_held(alloc)?,
         attachments: held_attachments(alloc, attachments)?,
     })
 }
@@ -54,16 +31,15 @@ fn held_message<B: Blob, C: Holds<B>>(
 #[cycle(held)]
 fn held_attachments<B: Blob, C: Holds<B>>(
     alloc: Global,
-    mut list: Attachments<B>,
+    attachments: Attachments<B>,
 ) -> Result<Attachments<C>, NoMemory>
-    ensures { IfOk result (λ r. list_of C.bytes r ≡ list_of B.bytes list) }
+    ensures { IfOk result (λ r. list_of C.bytes r ≡ list_of B.bytes attachments) }
 {
-    let mut all = Attachments::with_capacity(alloc, list.len())?;
-    for k in 0..list.len() {
-        let attachment = list.replace(k, Attachment::empty(alloc));
-        all.push(held_attachment(alloc, attachment)?)?;
+    let mut list = Vec::with_capacity(alloc, attachments.list.len())?;
+    for attachment in attachments.list {
+        list.push(held_attachment(alloc, attachment)?)?;
     }
-    Ok(all)
+    Ok(Attachments { list })
 }
 
 #[cycle(held)]
@@ -75,7 +51,7 @@ fn held_attachment<B: Blob, C: Holds<B>>(
 {
     let Attachment { props, body } = attachment;
     Ok(Attachment {
-        props: held_props(alloc, props)?,
+        props: props.into_held(alloc)?,
         body: held_body(alloc, body)?,
     })
 }
