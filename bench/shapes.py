@@ -649,6 +649,11 @@ def parameters(count):
     return mail(b"multipart/mixed" + b";a=b" * count + b";boundary=b", boundary(b"b", [carried()]))
 
 
+def semicolons(count):
+    """Parameters without a name or a value."""
+    return mail(b"multipart/mixed" + b";" * count + b";boundary=b", boundary(b"b", [carried()]))
+
+
 def quoted_parameter(count):
     return mail(b'multipart/mixed;a="' + b"\\\"" * count + b'";boundary=b', boundary(b"b", [carried()]))
 
@@ -681,6 +686,7 @@ def mail_shapes():
     yield shape("a folded header", folded_header, 2_000_000)
     yield shape("a folded type", folded_type, 1_000_000)
     yield shape("parameters", parameters, 2_000_000)
+    yield shape("semicolons", semicolons, 8_000_000)
     yield shape("a quoted parameter", quoted_parameter, 4_000_000)
     yield shape("lines near a boundary", near_boundaries, 100_000, tiny=False)
     yield shape("empty lines", lambda n: beside(b"\n" * n), 8 << 20)

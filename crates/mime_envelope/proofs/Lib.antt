@@ -6,6 +6,7 @@ pub mod Cuts
 pub mod Pieces
 pub mod Quoted
 pub mod Readings
+pub mod Searched
 pub mod Searches
 pub mod Shorter
 pub mod Texts

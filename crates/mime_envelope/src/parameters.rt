@@ -112,8 +112,11 @@ fn protected_size(rest: &[u8]) -> usize
     ensures value { result ≡ entity.protected_size rest.now }
     ensures within { result ≤ length rest.now }
 {
+    if !is_parameter(rest) {
+        return 0;
+    }
     let value = value_on(rest);
-    if !is_parameter(rest) || !is_quoted(value) {
+    if !is_quoted(value) {
         return 0;
     }
     let (_, text) = value.split_at(1);

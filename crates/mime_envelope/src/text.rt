@@ -4,18 +4,18 @@ ghost use Rattle.std.specs.List.{prefix_len};
 ghost use Rattle.std.specs.Str.{str_eq_ignore_ascii_case};
 ghost use Rattle.mail_model.specs.Lines as text;
 
+use memchr::memchr;
+
 /// How many bytes stand before the first such byte, or in all.
 #[tactic(auto, unfolding(mail_model::specs::Lines::size_before))]
 pub fn find(byte: u8, bytes: &[u8]) -> usize
     ensures value { result ≡ text.size_before byte bytes.now }
     ensures within { result ≤ length bytes.now }
 {
-    for (i, b) in bytes.iter().enumerate() {
-        if *b == byte {
-            return i;
-        }
+    match memchr(byte, bytes) {
+        Some(at) => at,
+        None => bytes.len(),
     }
-    bytes.len()
 }
 
 /// What stands before the first such byte; all where there is none.

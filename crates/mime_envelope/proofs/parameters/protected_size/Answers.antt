@@ -2,13 +2,12 @@ use Rattle.std.proofs.Common.{◌≡◌, ◌-◌, List, ℕ, length, drop, sym, 
 use Rattle.mail_model.specs.Entities.{quoted_size, value_on, is_quoted}
 use Rattle.mail_model.proofs.Parameters.{protected-text, protected-plain, protected-quoted}
 use Rattle.mime_envelope.proofs.parameters.protected_size.Goals as goal
-use Rattle.mime_envelope.proofs.parameters.protected_size.Goals.{then-not-is_parameter-via-then-not-is_parameter, then-not-is_parameter-via-else-not-is_parameter+then-not-is_quoted}
 
 pub returns-then-not-is_parameter-clause-value : goal.returns-then-not-is_parameter-clause-value
-returns-then-not-is_parameter-clause-value c = elim c.then-not-is_parameter.branch [
-  | then-not-is_parameter-via-then-not-is_parameter w ↦ sym (protected-text c.args.rest.now (sym w.if-not-is_parameter.true ∙ c.is_parameter.ensures))
-  | then-not-is_parameter-via-else-not-is_parameter+then-not-is_quoted w ↦ sym (protected-plain c.args.rest.now (sym w.if-not-is_quoted.true ∙ w.is_quoted.ensures ∙ ap is_quoted c.value_on-value.ensures))
-]
+returns-then-not-is_parameter-clause-value c = sym (protected-text c.args.rest.now (sym c.if-not-is_parameter.true ∙ c.is_parameter.ensures))
+
+pub returns-then-not-is_quoted-clause-value : goal.returns-then-not-is_quoted-clause-value
+returns-then-not-is_quoted-clause-value c = sym (protected-plain c.args.rest.now (sym c.if-not-is_quoted.true ∙ c.is_quoted.ensures ∙ ap is_quoted c.value_on-value.ensures))
 
 pub returns-clause-value : goal.returns-clause-value
 returns-clause-value c =
