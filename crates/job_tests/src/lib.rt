@@ -1,5 +1,5 @@
-//! Tests of words, of mails, of trips through all forms and of the report: the crates that they are of are below, and
-//! have none of their own.
+//! Tests of words, of mails, of translations, of trips through all forms and of the report: the crates that they are of
+//! are below, and have none of their own.
 #![tactic(auto)]
 
 #[cfg(test)]
@@ -8,5 +8,7 @@ mod given_words;
 mod mails;
 #[cfg(test)]
 mod reports;
+#[cfg(test)]
+mod translations;
 #[cfg(test)]
 mod trips;

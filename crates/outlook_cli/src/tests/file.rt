@@ -1,4 +1,5 @@
-use crate::tests::stream::{NAMED, listed};
+use crate::tests::layout::STORAGE;
+use crate::tests::stream::{NAMED, listed, with_object};
 use crate::tests::{ONE_PROPERTY, holds, refuse, run_over, write};
 use carrier_io::{Reason, le32, u32_at};
 use std::test::*;
@@ -86,10 +87,11 @@ fn files_are_read_back(rt: HostRuntime) -> Result<(), Fail> {
 
 #[test]
 fn values_below_and_from_4096_bytes(rt: HostRuntime) -> Result<(), Fail> {
-    for size in [4095, 4096] {
+    for (size, mini_stream) in [(4095, 65 * 64), (4096, 64)] {
         let stream = with_binary(&rt, size)?;
         let file = file_of(&rt, "to-msg", &stream)?;
         assert_eq!(rt; file.len(), 7168);
+        has(&file, 1024 + 116, &[4, mini_stream])?;
     }
     Ok(())
 }
@@ -120,7 +122,9 @@ fn files_with_faults(rt: HostRuntime) -> Result<(), Fail> {
         let bent = changed(&rt, &file, at, &le32(number))?;
         refuse(&rt, "to-tnef", &bent, reason, offset)?;
     }
-    refuse(&rt, "wrap", &file, Reason::BadSignature, 0)
+    refuse(&rt, "wrap", &file, Reason::BadSignature, 0)?;
+    let stored = with_object(&rt, 16 + 3072, &[&STORAGE, &file])?;
+    refuse(&rt, "to-msg", &stored, Reason::StoreIsMessage, 1905)
 }
 
 #[test]
@@ -172,6 +176,7 @@ fn names_in_another_order(rt: HostRuntime) -> Result<(), Fail> {
     for (at, byte) in [(2624, 0x0e), (2632, 0x0d), (2850, 1), (2866, 0)] {
         file = changed(&rt, &file, at, &[byte])?;
     }
+    write(&rt, "to-msg", &file, &file_of(&rt, "to-msg", &stream)?)?;
     write(&rt, "to-tnef", &file, &stream)
 }
 

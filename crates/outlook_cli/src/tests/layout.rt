@@ -5,7 +5,7 @@ use carrier_io::Reason;
 use std::test::*;
 
 /// The interface of an OLE store.
-const STORAGE: [u8; 16] = [0x0b, 0, 0, 0, 0, 0, 0, 0, 0xc0, 0, 0, 0, 0, 0, 0, 0x46];
+pub(crate) const STORAGE: [u8; 16] = [0x0b, 0, 0, 0, 0, 0, 0, 0, 0xc0, 0, 0, 0, 0, 0, 0, 0x46];
 
 /// Four properties of the type Integer32.
 const FOUR: [u8; 36] = [
