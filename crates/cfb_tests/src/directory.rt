@@ -143,9 +143,14 @@ fn classes(rt: HostRuntime) -> Result<(), Fail> {
     let root = [0x0B, 0x0D, 2, 0, 0, 0, 0, 0, 0, 0, 0, 0, 0, 0, 0, 0];
     let names = [0, 0, 0, 0, 0, 0, 0, 0, 0, 0, 0, 0, 0, 0, 0, 0x46];
     assert_eq!(rt; classes_of(&files), Some((root, names)));
-    assert_eq!(rt; child_len(&files, 0), None);
-    assert_eq!(rt; child_len(&files, 1), Some(32));
-    assert_eq!(rt; child_len(&files, 2), None);
+    assert_eq!(rt;
+        (
+            child_len(&files, 0),
+            child_len(&files, 1),
+            child_len(&files, 2)
+        ),
+        (None, Some(32), None)
+    );
     Ok(())
 }
 
@@ -167,30 +172,36 @@ fn lookups(rt: HostRuntime) -> Result<(), Fail> {
     let file = file_of(rt.alloc(), &THREE, &[])?;
     let mut walk = Walk::new();
     let files = opened(rt.alloc(), &file, &mut walk)?;
-    assert_eq!(rt; walk.count(), 5);
-    assert_eq!(rt; offsets(&files), Some((1152, 1784)));
-    assert_eq!(rt; child_of(&files, 0), Some((19, true)));
-    assert_eq!(rt; child_of(&files, 1), Some((23, false)));
-    assert_eq!(rt; child_of(&files, 2), None);
+    assert_eq!(rt; (walk.count(), offsets(&files)), (5, Some((1152, 1784))));
+    assert_eq!(rt;
+        (
+            child_of(&files, 0),
+            child_of(&files, 1),
+            child_of(&files, 2)
+        ),
+        (Some((19, true)), Some((23, false)), None)
+    );
     assert!(rt; files.stream(files.root(), "__substg1.0_00020102").is_none());
     Ok(())
 }
 
 /// The first piece of the property stream, which outlives the files.
-fn first_piece<'f>(alloc: Global, bytes: &'f [u8]) -> Result<&'f [u8], Fail> {
-    let files = opened(alloc, bytes, &mut Walk::new())?;
-    let view = files.stream(files.root(), PROPERTIES).ok_or("no stream")?;
+fn first_piece<'f>(files: &Files<'f>) -> Option<&'f [u8]> {
+    let view = files.stream(files.root(), PROPERTIES)?;
     if view.pieces() == 0 {
-        return Err("no piece")?;
+        return None;
     }
-    Ok(view.slice(0))
+    Some(view.slice(0))
 }
 
 #[test]
 fn views(rt: HostRuntime) -> Result<(), Fail> {
     let words: [Row<'_>; 2] = [(1784, &[48]), (2592, &[0x0017_0003, 6, 2, 0])];
     let file = file_of(rt.alloc(), &THREE, &words)?;
-    let piece = first_piece(rt.alloc(), &file)?;
+    let files = opened(rt.alloc(), &file, &mut Walk::new())?;
+    let found = first_piece(&files);
+    drop(files);
+    let piece = found.ok_or("no piece")?;
     assert_eq!(rt; piece.len(), 48);
     assert_eq!(rt;
         piece.get(32..),
@@ -200,20 +211,20 @@ fn views(rt: HostRuntime) -> Result<(), Fail> {
 }
 
 /// How many bytes the property stream has, and the view of its first 64.
-fn lengths(alloc: Global, bytes: &[u8]) -> Result<(usize, usize), Fail> {
-    let files = opened(alloc, bytes, &mut Walk::new())?;
-    let view = files.stream(files.root(), PROPERTIES).ok_or("no stream")?;
+fn lengths(files: &Files<'_>) -> Option<(usize, usize)> {
+    let view = files.stream(files.root(), PROPERTIES)?;
     if view.len() < 64 {
-        return Err("short")?;
+        return None;
     }
-    Ok((view.len(), view.prefix(64)?.len()))
+    Some((view.len(), view.prefix(64).ok()?.len()))
 }
 
 #[test]
 fn fronts(rt: HostRuntime) -> Result<(), Fail> {
     let words: [Row<'_>; 3] = [(1144, &[128]), (1784, &[65]), (2048, &[1, END])];
     let file = file_of(rt.alloc(), &THREE, &words)?;
-    assert_eq!(rt; lengths(rt.alloc(), &file)?, (65, 64));
+    let files = opened(rt.alloc(), &file, &mut Walk::new())?;
+    assert_eq!(rt; lengths(&files), Some((65, 64)));
     Ok(())
 }
 
