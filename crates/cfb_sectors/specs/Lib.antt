@@ -1,4 +1,5 @@
 pub mod Seen
 pub mod States
+pub mod Stays
 pub mod Took
 pub mod Views

@@ -6,6 +6,7 @@ ghost use Rattle.carrier_model.specs.Sectors.{word_offset};
 ghost use Rattle.carrier_io.specs.Reads.{Gives};
 ghost use Rattle.carrier_io.specs.Reasons.{number_of};
 ghost use Rattle.carrier_io.specs.Steps.{stepped};
+ghost use Rattle.cfb_sectors.specs.Stays.{Stay};
 
 use crate::fat::Fat;
 use crate::following::{Followed, follow};
@@ -54,6 +55,7 @@ pub fn take_chain(
     ensures whole { IfOk result (λ v. All (λ n. n < limits.whole) v.items) }
     ensures steps { IfOk result (λ v. walk.new ≡ stepped walk.old (vec_len v)) }
     ensures length { length marks.new ≡ length marks.old }
+    ensures stay { Stay marks.old marks.new }
     ensures bounded { walk.new + unmarked marks.new ≤ walk.old + unmarked marks.old }
     ensures grows { walk.old ≤ walk.new }
 {

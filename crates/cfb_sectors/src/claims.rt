@@ -9,6 +9,7 @@ ghost use Rattle.carrier_model.specs.Streams.{places_of, starts_of, lie_below};
 ghost use Rattle.carrier_io.specs.Reads.{Gives};
 ghost use Rattle.carrier_io.specs.Steps.{stepped};
 ghost use Rattle.cfb_sectors.specs.Seen.{stream, piece_count};
+ghost use Rattle.cfb_sectors.specs.Stays.{Stay};
 ghost use Rattle.cfb_sectors.specs.Views.{table, mini_seen};
 
 use crate::fat::Fat;
@@ -36,6 +37,7 @@ pub fn view_long<'a>(
     ensures marked { (earlier chain : List ℕ) → Marks marks.old earlier → long_chain_of fat.now.size bytes.now (table fat.now) wish.start wish.size wish.entry earlier ≡ Ok chain → IfOk result (λ _. Marks marks.new (earlier ++ chain)) }
     ensures steps { (earlier chain : List ℕ) → Marks marks.old earlier → long_chain_of fat.now.size bytes.now (table fat.now) wish.start wish.size wish.entry earlier ≡ Ok chain → IfOk result (λ _. walk.new ≡ stepped walk.old (length chain)) }
     ensures length { length marks.new ≡ length marks.old }
+    ensures stay { Stay marks.old marks.new }
     ensures bounded { walk.new + unmarked marks.new ≤ walk.old + unmarked marks.old }
     ensures grows { walk.old ≤ walk.new }
 {
@@ -64,6 +66,7 @@ pub fn view_short<'a>(
     ensures marked { (earlier chain : List ℕ) → Marks marks.old earlier → short_chain_of from.now.fat.size (mini_seen from.now) wish.start wish.size wish.entry earlier ≡ Ok chain → IfOk result (λ _. Marks marks.new (earlier ++ chain)) }
     ensures steps { (earlier chain : List ℕ) → Marks marks.old earlier → short_chain_of from.now.fat.size (mini_seen from.now) wish.start wish.size wish.entry earlier ≡ Ok chain → IfOk result (λ _. walk.new ≡ stepped walk.old (length chain)) }
     ensures length { length marks.new ≡ length marks.old }
+    ensures stay { Stay marks.old marks.new }
     ensures bounded { walk.new + unmarked marks.new ≤ walk.old + unmarked marks.old }
     ensures grows { walk.old ≤ walk.new }
 {

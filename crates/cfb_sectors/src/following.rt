@@ -2,6 +2,7 @@
 ghost use Rattle.std.specs.Prelude.{◌≡◌, ◌+◌, ◌<◌, ◌≤◌, vec_len, length, IfOk, All};
 ghost use Rattle.carrier_model.specs.Marks.{mark_all, unmarked, Stops};
 ghost use Rattle.carrier_io.specs.Steps.{stepped};
+ghost use Rattle.cfb_sectors.specs.Stays.{Stay};
 
 use crate::fat::Fat;
 use crate::marks::SectorMarks;
@@ -35,6 +36,7 @@ pub fn follow(
     ensures steps { IfOk result (λ f. walk.new ≡ stepped walk.old (vec_len f.chain)) }
     ensures few { IfOk result (λ f. vec_len f.chain + unmarked marks.new ≡ unmarked marks.old) }
     ensures length { length marks.new ≡ length marks.old }
+    ensures stay { Stay marks.old marks.new }
     ensures bounded { walk.new + unmarked marks.new ≤ walk.old + unmarked marks.old }
     ensures grows { walk.old ≤ walk.new }
 {

@@ -8,6 +8,7 @@ ghost use Rattle.carrier_io.specs.Reads.{Gives};
 ghost use Rattle.carrier_io.specs.Steps.{stepped};
 ghost use Rattle.cfb_sectors.specs.States.{State, IsKept, entries, entry_of, place_of, pieces_of, chain_claimed, stream_claimed};
 ghost use Rattle.cfb_sectors.specs.Seen.{stream, piece_count};
+ghost use Rattle.cfb_sectors.specs.Stays.{Stay};
 ghost use Rattle.cfb_sectors.specs.Views.{table, mini_seen, entry};
 
 use crate::claims::{view_long, view_short};
@@ -162,8 +163,8 @@ impl<'a> Sectors<'a> {
     }
 
     /// The stream of an entry [MS-CFB 2.6.3], whose sectors are marked. An empty stream takes none. SectorOutOfRange, Cycle, Shared or
-    /// ShortChain at the field or word that names what may not follow; FileTruncated at the entry's size. After a fault
-    /// some sectors stay marked.
+    /// ShortChain at the field or word that names what may not follow; FileTruncated at the entry's size. Whatever is
+    /// answered, what was marked stays marked; after a fault or want of memory further sectors may be marked.
     #[tactic(auto, unfolding(carrier_model::specs::Loads::claim_of))]
     pub fn claim(&mut self, alloc: Global, id: u32, walk: &mut Walk) -> Result<StreamView<'a>, Stop>
         requires { id < entries self.old }
@@ -172,6 +173,7 @@ impl<'a> Sectors<'a> {
         ensures marked { (long short chain : List ℕ) → Marks self.old.marks long → Marks self.old.mini_marks short → chain_claimed self.old id long short ≡ Ok chain → IfOk result (λ _. Marks self.new.marks (long ++ long_part (entry_of self.old id) chain) × Marks self.new.mini_marks (short ++ short_part (entry_of self.old id) chain)) }
         ensures steps { (long short chain : List ℕ) → Marks self.old.marks long → Marks self.old.mini_marks short → chain_claimed self.old id long short ≡ Ok chain → IfOk result (λ _. walk.new ≡ stepped walk.old (length chain)) }
         ensures same { self.new ≡ record self.old { marks = self.new.marks; mini_marks = self.new.mini_marks } }
+        ensures stay { Stay self.old.marks self.new.marks × Stay self.old.mini_marks self.new.mini_marks }
         ensures bounded { walk.new + unmarked self.new.marks + unmarked self.new.mini_marks ≤ walk.old + unmarked self.old.marks + unmarked self.old.mini_marks }
         ensures grows { walk.old ≤ walk.new }
     {

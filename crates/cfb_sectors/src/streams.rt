@@ -6,6 +6,7 @@ ghost use Rattle.carrier_model.specs.Sectors.{is_size, sector_count};
 ghost use Rattle.carrier_model.specs.Streams.{is_piece, place_in, places_of, starts_of, mini_offsets, lie_below};
 ghost use Rattle.carrier_io.specs.Reads.{Gives};
 ghost use Rattle.carrier_io.specs.Steps.{stepped};
+ghost use Rattle.cfb_sectors.specs.Stays.{Stay};
 ghost use Rattle.cfb_sectors.specs.Views.{table, mini_seen};
 
 use crate::chains::{Limits, Start, take_chain};
@@ -129,6 +130,7 @@ pub fn take_long_chain(
     ensures below { IfOk result (λ c. All (λ n. n < 524288) c.chain.items) }
     ensures steps { IfOk result (λ c. walk.new ≡ stepped walk.old (vec_len c.chain)) }
     ensures length { length marks.new ≡ length marks.old }
+    ensures stay { Stay marks.old marks.new }
     ensures bounded { walk.new + unmarked marks.new ≤ walk.old + unmarked marks.old }
     ensures grows { walk.old ≤ walk.new }
 {
@@ -171,6 +173,7 @@ pub fn take_short_chain(
     ensures below { IfOk result (λ c. All (λ n. n < mini_bound (mini_seen from.now)) c.chain.items) }
     ensures steps { IfOk result (λ c. walk.new ≡ stepped walk.old (vec_len c.chain)) }
     ensures length { length marks.new ≡ length marks.old }
+    ensures stay { Stay marks.old marks.new }
     ensures bounded { walk.new + unmarked marks.new ≤ walk.old + unmarked marks.old }
     ensures grows { walk.old ≤ walk.new }
 {

@@ -4,6 +4,7 @@ use Rattle.carrier_model.specs.Marks.{is_free}
 use Rattle.std.proofs.lemmas.List.Elements.{All-nil, All-push}
 use Rattle.std.proofs.lemmas.List.{length-set}
 use Rattle.carrier_model.proofs.MarkLaws.{mark_all-push, Leads-push, AreFree-push, unmarked-set, is_free-true}
+use Rattle.cfb_sectors.proofs.StayLaws.{stay-set}
 use Rattle.cfb_sectors.proofs.following.follow.Goals as goal
 
 pub loop-sector-init : goal.loop-sector-init
@@ -17,6 +18,7 @@ loop-sector-init c =
       marked = rw none refl;
       steps = grind (arith, common_steps);
       same_length = refl;
+      stay = λ n h. h;
       few = grind (arith, common_steps);
       bounded = omega arith;
       grows = omega arith;
@@ -42,6 +44,7 @@ loop-sector-preserved c =
       marked = rw (pushed, mark_all-push, ← c.loop-sector.invariant.marked) c.mark.ensures;
       steps = grind (arith, common_steps);
       same_length = rw (c.mark.ensures, length-set) c.loop-sector.invariant.same_length;
+      stay = rw c.mark.ensures (stay-set c.args.marks.now c.loop-sector.marks c.loop-sector.sector c.loop-sector.invariant.stay);
       few = rw c.mark.ensures (grind (arith, common_steps));
       bounded = rw c.mark.ensures (omega arith);
       grows = omega arith;

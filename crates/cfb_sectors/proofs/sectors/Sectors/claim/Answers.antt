@@ -64,3 +64,12 @@ returns-else-entry-ge-LONG-clause-steps c =
     let some : (e.size ≡ 0 → ⊥) = c.if-entry-eq0.false in
     let little : e.size < 4096 = c.if-entry-ge-LONG.false in
     rw (← c.self.view_is) (λ long short chain h k is. c.view_short.ensures.steps short chain k (ap (λ z. short_chain_of z (mini_seen c.self.inside.mini) e.start e.size c.entry_place-place.result short) c.self.invariant.1 ∙ sym (short_claimed s c.args.id e c.entry_place-place.result long short ee eo some little) ∙ is))
+
+pub returns-then-entry-eq0-clause-stay : goal.returns-then-entry-eq0-clause-stay
+returns-then-entry-eq0-clause-stay c = rw (← c.self.view_is) ((λ n h. h), (λ n h. h))
+
+pub returns-then-entry-ge-LONG-clause-stay : goal.returns-then-entry-ge-LONG-clause-stay
+returns-then-entry-ge-LONG-clause-stay c = rw (← c.self.view_is) (c.view_long.ensures.stay, (λ n h. h))
+
+pub returns-else-entry-ge-LONG-clause-stay : goal.returns-else-entry-ge-LONG-clause-stay
+returns-else-entry-ge-LONG-clause-stay c = rw (← c.self.view_is) ((λ n h. h), c.view_short.ensures.stay)
