@@ -33,7 +33,8 @@ fn attachment_stores<B: Blob>(attachment: &Attachment<B>) -> usize
     }
 }
 
-/// What is told of the stores of an attachment, the first of which has a place among all.
+/// What is told of the stores of an attachment, the first of which has a place among all. Where nothing more is told, it
+/// has none, and is not looked through.
 pub fn own_stores<'a, B: Blob, S>(
     attachment: &Attachment<B>,
     stores: &'a [S],
@@ -42,6 +43,9 @@ pub fn own_stores<'a, B: Blob, S>(
     requires { from + length (stores_at (attached_of B.bytes attachment.now)) ≤ length stores.now }
     ensures { result.now ≡ take (length (stores_at (attached_of B.bytes attachment.now))) (drop from stores.entry.now) }
 {
+    if from == stores.len() {
+        return &stores[from..];
+    }
     let to = from + attachment_stores(attachment);
     &stores[from..to]
 }
