@@ -1,6 +1,7 @@
 pub mod StreamParts
 pub mod NamesOfTree
 pub mod WrittenStreams
+pub mod FoundIntegers
 pub mod BodyVariants
 pub mod FittingStores
 pub mod GatheredStores

@@ -1,31 +1,21 @@
 -- The parts of a stream as they are written one behind the other.
-use Rattle.std.proofs.Common.{◌≡◌, ℕ, ◌+◌, ◌%◌, ◌++◌, List, Bool, true, false, Option, Some, None, Result, Ok, Err, length, take, drop, refl, sym, ap, subst, ◌∙◌, append_assoc}
-use Rattle.std.specs.Prelude.{slice_get, unwrap_or, find, ◌==◌, ◌&&◌, replicate, if◌then◌else◌}
-use Rattle.std.specs.Option.{option_map}
+use Rattle.std.proofs.Common.{◌≡◌, ℕ, ◌+◌, ◌%◌, ◌++◌, List, Option, Some, Result, Ok, Err, length, take, drop, refl, sym, ap, subst, ◌∙◌, append_assoc}
+use Rattle.std.specs.Prelude.{slice_get, replicate}
 use Rattle.std.specs.Result.{IsErr}
 use Rattle.std.specs.List.{flat_map}
 use Rattle.carrier_model.specs.Bytes.{le32, pad4}
-use Rattle.carrier_model.specs.Keys.{Name, is_id}
-use Rattle.tnef_model.specs.TnefCanonical.{integer_or, bits_in, object_bytes, stream_of, tag_bytes}
+use Rattle.carrier_model.specs.Keys.{Name}
+use Rattle.tnef_model.specs.TnefCanonical.{object_bytes, stream_of, tag_bytes}
 use Rattle.carrier_model.specs.Kinds.{OBJECT}
-use Rattle.carrier_model.specs.Values.{Prop, kind_of}
-use Rattle.carrier_model.proofs.Trees.{drop_at}
 use Rattle.carrier_model.specs.Tree as plain
 use Rattle.msg_tree.specs.Meaning.{tree_of, list_of}
 use Rattle.msg_tree.specs.declared.messages.Message.{Message, out-Message}
 use Rattle.msg_tree.proofs.Unrolled.{tree_out}
 use Rattle.tnef_writer.specs.Carried.{object_head}
-use Rattle.tnef_writer.specs.Written.{picked, own_bytes, attachment_bytes}
+use Rattle.tnef_writer.specs.Written.{own_bytes, attachment_bytes}
 use Rattle.tnef_writer.proofs.StreamParts.{stream_parts}
 use Rattle.carrier_io.specs.Summed.{Sums}
 use Rattle.carrier_io.proofs.Summed.{sums_both, sums_first, sums_second, flat_map_more, flat_map_parts}
-
-pub integer_step : (m : List Prop) (k : ℕ) (p : Prop) (n other : ℕ) → slice_get m k ≡ Some p → integer_or (drop k m) n other ≡ unwrap_or (picked n p) (integer_or (drop (k + 1) m) n other)
-integer_step m k p n other at = ap (λ (l : List Prop). integer_or l n other) (drop_at m k p at) ∙ by (is_id n p.key && (kind_of p.value == 0x0003))
-  where
-    by : (is : Bool) → unwrap_or (option_map (λ (q : Prop). bits_in q.value) (if is then Some p else find (λ q. is_id n q.key && (kind_of q.value == 0x0003)) (drop (k + 1) m))) other ≡ unwrap_or (if is then Some (bits_in p.value) else None) (integer_or (drop (k + 1) m) n other)
-    by true = refl
-    by false = refl
 
 -- one item more, behind what stands before the list
 pub behind_more : {X E F G : Type 0} {a b c : Option (List ℕ)} {n m l s t : ℕ} (front : List ℕ) (f : X → List ℕ) (xs : List X) (k : ℕ) (x : X) (r : ℕ) → slice_get xs k ≡ Some x → r ≡ (s + t) % 65536 → Sums {E = E} a b n m (Ok s) (front ++ flat_map f (take k xs)) → Sums {E = F} b c m l (Ok t) (f x) → Sums {E = G} a c n l (Ok r) (front ++ flat_map f (take (k + 1) xs))

@@ -1,12 +1,12 @@
 -- The parts of a message's stream.
-use Rattle.std.specs.Prelude.{ℕ, ◌++◌, List, All, Contains, Option, None, Some, length, ◌==◌, ◌&&◌, if◌then◌else◌}
+use Rattle.std.specs.Prelude.{ℕ, ◌++◌, List, All, Contains, None, Some, length}
 use Rattle.std.specs.List.{flat_map}
 use Rattle.carrier_model.specs.Bytes.{le32}
-use Rattle.carrier_model.specs.Keys.{Name, is_id}
+use Rattle.carrier_model.specs.Keys.{Name}
 use Rattle.tnef_model.specs.LegacyAttributes.{ATTACHMENT}
-use Rattle.tnef_model.specs.TnefCanonical.{attribute, bits_in, content_of, front, list_bytes, page_attribute, props_attribute, recipients_attribute, rendering_attribute}
+use Rattle.tnef_model.specs.TnefCanonical.{attribute, content_of, front, list_bytes, page_attribute, props_attribute, recipients_attribute, rendering_attribute}
 use Rattle.carrier_model.specs.Tree.{Attached}
-use Rattle.carrier_model.specs.Values.{Prop, kind_of}
+use Rattle.carrier_model.specs.Values.{Prop}
 use Rattle.tnef_writer.specs.declared.write_lists.ListContent.{ListContent}
 use Rattle.tnef_writer.specs.declared.write_lists.ListContent.TheVariants.{ListOf, Table}
 use Rattle.tnef_props.specs.Named.{HasNames}
@@ -47,7 +47,3 @@ ContentIsNamed names (Table recipients) = All (HasNames names) recipients.now
 -- the list of an attachment with an Object of this value in it
 abbrev pub carried_list : List Name → List Prop → List ℕ → List ℕ
 carried_list names props value = list_bytes names props (Some value)
-
--- the number of a property that is the Integer32 of the id
-abbrev pub picked : ℕ → Prop → Option ℕ
-picked n p = if is_id n p.key && (kind_of p.value == 0x0003) then Some (bits_in p.value) else None

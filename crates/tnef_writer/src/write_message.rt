@@ -7,7 +7,7 @@ ghost use Rattle.msg_tree.specs.Meaning.{tree_of, attached_of};
 ghost use Rattle.prop_values.specs.Meaning.{value_of};
 ghost use Rattle.tnef_writer.specs.Carried.{IsCarried, held_bytes, object_value};
 ghost use Rattle.tnef_writer.specs.TreeStores.{files_of, stores_in, stores_at};
-ghost use Rattle.tnef_writer.specs.Written.{picked, own_bytes, attachment_bytes, attached_list, carried_list, Includes};
+ghost use Rattle.tnef_writer.specs.Written.{own_bytes, attachment_bytes, attached_list, carried_list, Includes};
 ghost use Rattle.tnef_props.specs.Named.{HasNames};
 ghost use Rattle.carrier_io.specs.Summed.{Sums};
 
@@ -19,8 +19,8 @@ use crate::write_sizes::message_size;
 use carrier_io::{Blob, Failed, Sink, append, append_zeros, le16, le32, pad4};
 use cfb_writer::Plan;
 use msg_tree::{Attachment, Body, Message, Recipients};
-use prop_names::NameSet;
-use prop_values::{Prop, Props, Value};
+use prop_names::{Key, NameSet};
+use prop_values::{Kind, Props, Value};
 use tnef_attributes::{attribute_head, ids};
 use tnef_props::{append_range, list_size, object_place};
 
@@ -29,9 +29,6 @@ const PLAIN_PAGE: u32 = 1252;
 
 /// The position that is written where no property gives one.
 const NO_POSITION: u32 = 0xffff_ffff;
-
-/// The type Integer32.
-const INTEGER32: u16 = 0x0003;
 
 /// The bits of a value of one number; 0 of every other.
 fn bits_of<B: Blob>(value: &Value<B>) -> u64
@@ -43,26 +40,14 @@ fn bits_of<B: Blob>(value: &Value<B>) -> u64
     }
 }
 
-/// The number of a property that is the Integer32 of the id.
-fn integer_in<B: Blob>(prop: &Prop<B>, id: u16) -> Option<u32>
-    ensures { result ≡ picked id prop.now }
-{
-    if prop.has_id(id) && prop.value.kind().number() == INTEGER32 {
-        return Some(bits_of(&prop.value) as u32);
-    }
-    None
-}
-
 /// The Integer32 of an id, or else a number.
 fn integer_or<B: Blob>(props: &Props<B>, id: u16, other: u32) -> u32
     ensures { result ≡ canon.integer_or props.now id other }
 {
-    for k in 0..props.len() {
-        if let Some(number) = integer_in(props.get(k), id) {
-            return number;
-        }
+    match props.find(&Key::Id(id), Kind::Integer32) {
+        Some(at) => bits_of(&props.get(at).value) as u32,
+        None => other,
     }
-    other
 }
 
 /// Appends signature, key and version.

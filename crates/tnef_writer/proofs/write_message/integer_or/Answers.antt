@@ -1,21 +1,16 @@
-use Rattle.std.proofs.Common.{ℕ, Option, drop, ◌+◌, ap, sym, ◌∙◌}
-use Rattle.std.specs.Prelude.{unwrap_or}
-use Rattle.tnef_model.specs.TnefCanonical as canon
-use Rattle.tnef_writer.proofs.WrittenStreams.{integer_step}
+use Rattle.std.proofs.Common.{◌≡◌, ◌∙◌, ap, sym, subst, Some}
+use Rattle.carrier_model.specs.Keys.{id}
+use Rattle.carrier_model.specs.Values.{Prop, HasPair}
+use Rattle.tnef_model.specs.TnefCanonical.{bits_in}
+use Rattle.tnef_writer.proofs.FoundIntegers.{integer_there, integer_absent}
 use Rattle.tnef_writer.proofs.write_message.integer_or.Goals as goal
 
 pub returns-in-Some : goal.returns-in-Some
 returns-in-Some g c =
-    let m = c.args.props.now in
-    let k = c.loop-k.k in
-    let rest = canon.integer_or (drop (k + 1) m) c.args.id c.args.other in
-    let e = sym c.integer_in.ensures ∙ c.in-Some.is in
-    ap (λ (o : Option ℕ). unwrap_or o rest) (sym e) ∙ sym (integer_step m k c.get.result.now c.args.id c.args.other c.get.ensures) ∙ c.loop-k.invariant
+    let p : Prop = c.get.result.now in
+    let same : c.in-Some.ensures.found.0 ≡ p = let e : Some c.in-Some.ensures.found.0 ≡ Some p = sym c.in-Some.ensures.found.1 ∙ c.get.ensures in cc in
+    let pair : HasPair (id c.args.id) 0x0003 p = subst (HasPair (id c.args.id) 0x0003) same c.in-Some.ensures.found.2 in
+    c.bits_of.ensures ∙ (ap (λ (q : Prop). bits_in q.value) c.behind-props.view_is ∙ sym (integer_there c.args.props.now c.args.id c.args.other c.in-Some.at p c.in-Some.ensures.sorted c.get.ensures pair))
 
-pub loop-k-preserved : goal.loop-k-preserved
-loop-k-preserved g c =
-    let m = c.args.props.now in
-    let k = c.loop-k.k in
-    let rest = canon.integer_or (drop (k + 1) m) c.args.id c.args.other in
-    let e = sym c.integer_in.ensures ∙ c.in_default.is in
-    ap (λ (o : Option ℕ). unwrap_or o rest) (sym e) ∙ sym (integer_step m k c.get.result.now c.args.id c.args.other c.get.ensures) ∙ c.loop-k.invariant
+pub returns : goal.returns
+returns g c = sym (integer_absent c.args.props.now c.args.id c.args.other c.in-None.ensures.absent)
