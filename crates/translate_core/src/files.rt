@@ -1,5 +1,5 @@
 //! Messages written as .msg files.
-ghost use Rattle.std.specs.Prelude.{◌≡◌, ◌≤◌, ℕ, List, None, length, IfOk, IfErr};
+ghost use Rattle.std.specs.Prelude.{◌≡◌, ◌≤◌, ℕ, List, None, length, IfOk, IfErr, OnOk};
 ghost use Rattle.cfb_layout.specs.Versions.{sector_of};
 ghost use Rattle.job_model.specs.Commands.{to_msg};
 ghost use Rattle.msg_model.specs.WrittenMsg.{msg_in, msg_of};
@@ -80,10 +80,12 @@ pub fn write_msg<B: Blob, W: Sink>(
     write_file(alloc, Version::Three, tree, sink)
 }
 
-/// The canonical .msg file of a tree, of version 3. Unfit says which limit the tree passes, the first in the order of
-/// names, recipients and attachments message by message, and bytes. NoMemory says that memory ran out. [MS-OXMSG 2.3]
+/// The canonical .msg file of a tree, of version 3, unless the tree passes a limit. Unfit says which, the first in the
+/// order of names, recipients and attachments message by message, and bytes. NoMemory says that memory ran out.
+/// [MS-OXMSG 2.3]
 pub fn msg_bytes<B: Blob>(alloc: Global, tree: &Tree<B>) -> Result<Vec<u8>, MsgEnd>
     ensures ok { IfOk result (λ v. v.items ≡ msg_of (plain_of tree.now)) }
+    ensures fits { OnOk result (file_limit 512 (plain_of tree.now) ≡ None) }
     ensures end { IfErr result (FileEnds 512 (plain_of tree.now)) }
 {
     let plan = msg_plan(alloc, Version::Three, tree)?;
