@@ -13,6 +13,11 @@ front_of true signed = Some Msg
 front_of false true = Some Tnef
 front_of false false = None
 
+-- it was accepted as a .msg file
+abbrev pub is_msg : Input → Bool
+is_msg (inputs.Msg accepted) = true
+is_msg (inputs.Tnef accepted) = false
+
 -- what was accepted
 abbrev pub meaning_of : Input → Meaning
 meaning_of (inputs.Msg accepted) = meaning_in accepted

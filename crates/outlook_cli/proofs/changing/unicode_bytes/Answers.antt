@@ -7,12 +7,12 @@ pub returns-in-Ok-Msg-clause-told : goal.returns-in-Ok-Msg-clause-told
 returns-in-Ok-Msg-clause-told g c =
     let bytes = c.args.bytes.now in
     let m = meaning_in c.in-Ok-Msg.accepted in
-    let read = rw c.in-Ok-Msg.field-0-is at c.in-Ok-Msg.ensures in
+    let read = rw c.in-Ok-Msg.field-0-is at c.in-Ok-Msg.ensures.both in
     change_told to_unicode bytes _ _ c.write_unicode_msg.result m (accepts_file bytes m c.requires read) (c.write_unicode_msg.ensures.puts bytes)
 
 pub returns-in-Ok-Tnef-clause-told : goal.returns-in-Ok-Tnef-clause-told
 returns-in-Ok-Tnef-clause-told g c =
     let bytes = c.args.bytes.now in
     let m = meaning_in c.in-Ok-Tnef.accepted in
-    let read = rw c.in-Ok-Tnef.field-0-is at c.in-Ok-Tnef.ensures in
+    let read = rw c.in-Ok-Tnef.field-0-is at c.in-Ok-Tnef.ensures.both in
     change_told to_unicode bytes _ _ c.write_unicode.result m (accepts_file bytes m c.requires read) (c.write_unicode.ensures.puts bytes)
