@@ -176,7 +176,7 @@ fn short_list(files: &Files<'_>, at: StorageId) -> Fault
 }
 
 /// Reads the property list of a storage: of the top message, an embedded message, a recipient or an attachment. What has no
-/// place in a tree is added to `passed`; after a refusal that is what the entries read so far pass over. A fault is the first:
+/// place in a tree is added to `passed`; after a refusal that is what some first entries pass over. A fault is the first:
 /// MissingProperties at the directory entry of the storage, BadPropStream at the size of the stream, and entry by entry
 /// UnknownType, UnmappedId, BadElement, MissingStream and DuplicateProperty. Values stay in the input. [MS-OXMSG 2.4]
 pub fn read_props<'a>(

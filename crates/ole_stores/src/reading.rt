@@ -12,6 +12,7 @@ ghost use Rattle.ole_stores.specs.Levels.{store_within, store_below, members_wit
 use carrier_io::{Fault, NoMemory, Reason, Stop};
 use cfb_directory::{Child, Files, StorageId};
 use cfb_sectors::StreamView;
+use cfb_sectors::fields::OBJECT_TYPE;
 use msg_tree::{Member, Members, Store};
 use std::alloc::Global;
 
@@ -102,7 +103,7 @@ fn read_below<'a>(
     if most == 0 {
         return Err(Stop::Fault(Fault {
             reason: Reason::StoreTooDeep,
-            offset: files.storage_offset(at) + 66,
+            offset: files.storage_offset(at) + OBJECT_TYPE as u64,
         }));
     }
     read_within(alloc, files, at, most - 1)

@@ -152,8 +152,8 @@ fn value_by(rule: Rule, bytes: &[u8]) -> Option<Value<&[u8]>>
     }
 }
 
-/// The property that an attribute stands for by itself: none where it stands for none, or where its bytes are no date,
-/// no code page but 0 or 1252, or no position (MS-OXTNEF, section 2.1.3.3).
+/// The property that an attribute stands for by itself: none where it stands for none, where its bytes are no date, no code
+/// page or no position, and where the code page is 0 or 1252 (MS-OXTNEF, section 2.1.3.3).
 pub fn legacy_prop<'a>(attribute: &Attribute<'a>) -> Option<Prop<&'a [u8]>>
     requires { length attribute.now.bytes.now < 268435456 }
     ensures { result ≡ plain.legacy_prop attribute.now.id attribute.now.bytes.now }
