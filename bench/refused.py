@@ -2,7 +2,7 @@
 """Refuses what the program asks of the system, one thing at a time, and looks at every answer.
 
     make build            builds crates/outlook_cli/out/outlook_cli
-    bench/refused.py      all commands on a small and on a middling input; some minutes
+    bench/refused.py      all commands on a small and on a middling input; ten minutes
     bench/refused.py show edit
 
 `refused.c`, put before the program by LD_PRELOAD, counts what the program asks for and refuses the k-th: a request for
