@@ -1,8 +1,11 @@
-use carrier_io::MemorySink;
+ghost use Rattle.std.specs.Prelude.{◌<◌, length};
+
+use carrier_io::{Blob, MemorySink};
 use msg_tree::{Attachment, Attachments, Body, Message, Recipients, Store, Tree, fits_tnef, names};
 use prop_names::Key;
 use prop_values::{Kind, Prop, Props, Value};
 use std::alloc::Global;
+use std::cell::Cell;
 use std::test::*;
 use tnef_attributes::sum16;
 use tnef_writer::TnefPlan;
@@ -24,7 +27,7 @@ const FRONT: [u8; 121] = [
 ];
 
 /// A message without attachments.
-fn message(alloc: Global) -> Message<Vec<u8>> {
+fn message<B: Blob>(alloc: Global) -> Message<B> {
     Message {
         props: Props::new(alloc),
         recipients: Recipients::new(alloc),
@@ -131,5 +134,71 @@ fn stores_in_order(rt: HostRuntime) -> Result<(), Fail> {
         assert_eq!(rt; stream.get(at..at + 16), Some(&[class; 16][..]));
     }
     assert_eq!(rt; sum16(&stream), 2607);
+    Ok(())
+}
+
+/// Bytes that count how often a piece of them was asked for.
+#[derive(Drop)]
+struct Counted<'a> {
+    bytes: &'a [u8],
+    asked: &'a Cell<u32>,
+}
+
+impl Blob for Counted<'_> {
+    ghost use Rattle.std.specs.Prelude.{refl};
+
+    ghost bytes = { λ c. c.bytes.now };
+
+    ghost count = { λ _. 1 };
+
+    ghost part = { λ c _. c.bytes.now };
+
+    ghost joins = { λ _. refl };
+
+    fn len(&self) -> usize {
+        self.bytes.len()
+    }
+
+    fn pieces(&self) -> usize {
+        1
+    }
+
+    fn piece(&self, _k: usize) -> &[u8] {
+        self.asked.set(self.asked.get().saturating_add(1));
+        self.bytes
+    }
+}
+
+/// A tree with one text, the subject.
+fn with_subject<B: Blob>(alloc: Global, bytes: B) -> Result<Tree<B>, Fail>
+    requires { length (B.bytes bytes) < 100 }
+{
+    let mut top = message(alloc);
+    let kind = Kind::String8;
+    let subject = Prop {
+        key: Key::Id(0x0037),
+        value: Value::Bytes { kind, bytes },
+    };
+    top.props.insert_sorted(subject).ok().ok_or("a text")?;
+    Ok(Tree::new(top).ok().ok_or("a tree")?)
+}
+
+#[test]
+fn a_text_is_asked_for_in_writing(rt: HostRuntime) -> Result<(), Fail> {
+    let asked = Cell::new(0);
+    let text = Counted {
+        bytes: b"Agenda",
+        asked: &asked,
+    };
+    let tree = with_subject(rt.alloc(), text)?;
+    let names = names(rt.alloc(), &tree)?;
+    if fits_tnef(&tree, &names).is_some() {
+        return Err("few names".into());
+    }
+    let plan = TnefPlan::new(rt.alloc(), &tree, &names)?;
+    let mut sink = MemorySink::new(rt.alloc(), plan.size() as usize, Vec::new(rt.alloc()))?;
+    assert_eq!(rt; asked.get(), 0);
+    plan.write(&mut sink)?;
+    assert!(rt; asked.get() > 0);
     Ok(())
 }
