@@ -49,7 +49,7 @@ fn a_text_keeps_its_null_through_all_forms(rt: HostRuntime) -> Result<(), Fail> 
     assert_eq!(rt; got.envelope.len(), 272);
     assert_eq!(rt; got.carried.as_slice(), ONE_TEXT.as_slice());
     assert_eq!(rt; got.msg.len(), 3072);
-    assert_eq!(rt; got.msg.get(2560..2564), Some(UNITS.as_slice()));
-    assert_eq!(rt; got.msg.get(2656..2672), Some(TEXT_ENTRY.as_slice()));
+    assert_eq!(rt; &got.msg[2560..2564], &UNITS[..]);
+    assert_eq!(rt; &got.msg[2656..2672], &TEXT_ENTRY[..]);
     Ok(())
 }
