@@ -8,6 +8,7 @@ mod telling;
 
 use crate::run::run;
 use carrier_io::{Fault, MemorySink, MemorySource, Reason};
+use file::EMPTY;
 use outlook_status::Status;
 use std::test::*;
 use stream::listed;
@@ -111,8 +112,7 @@ pub(crate) fn write(
 #[test]
 fn streams_are_translated(rt: HostRuntime) -> Result<(), Fail> {
     write(&rt, "to-tnef", &ONE_PROPERTY, &ONE_PROPERTY)?;
-    let empty = [0x78, 0x9f, 0x3e, 0x22, 0x00, 0x00];
-    write(&rt, "to-tnef", &empty, &listed(&rt, &[0; 4])?)
+    write(&rt, "to-tnef", &EMPTY, &listed(&rt, &[0; 4])?)
 }
 
 #[test]
@@ -142,7 +142,7 @@ fn a_read_that_fails(rt: HostRuntime) -> Result<(), Fail> {
         let got = run_over(&rt, "to-tnef", &ONE_PROPERTY, &[call], &[])?;
         let end = (got.status.code(), got.output.as_slice());
         let failed = end == (4, &[][..]) && got.report.as_slice() == b"read fault\n".as_slice();
-        assert!(rt; failed || end == (0, &ONE_PROPERTY[..]));
+        assert!(rt; failed || call > 0 && end == (0, &ONE_PROPERTY[..]));
     }
     Ok(())
 }
@@ -159,8 +159,10 @@ fn a_write_that_fails(rt: HostRuntime) -> Result<(), Fail> {
 fn a_report_without_room(rt: HostRuntime) -> Result<(), Fail> {
     let alloc = rt.alloc();
     let mut words = Vec::new(alloc);
-    words.push(String::from_str(alloc, "to-tnef")?)?;
-    let mut source = MemorySource::new(Vec::new(alloc), Vec::new(alloc));
+    words.push(String::from_str(alloc, "to-msg")?)?;
+    let mut sum = ONE_PROPERTY;
+    sum[61] = 0x1e;
+    let mut source = MemorySource::new(sum.to_vec(alloc)?, Vec::new(alloc));
     let mut output = MemorySink::new(alloc, 10, Vec::new(alloc))?;
     let mut report = MemorySink::new(alloc, 5, Vec::new(alloc))?;
     let status = run(alloc, &words, &mut source, &mut output, &mut report);

@@ -1,11 +1,11 @@
-use crate::tests::layout::STORAGE;
+use crate::tests::layout::{END, FREE, STORAGE};
 use crate::tests::stream::{NAMED, listed, with_object};
 use crate::tests::{ONE_PROPERTY, holds, refuse, run_over, write};
 use carrier_io::{Reason, le32, u32_at};
 use std::test::*;
 
 /// A TNEF stream without attributes.
-const EMPTY: [u8; 6] = [0x78, 0x9f, 0x3e, 0x22, 0x00, 0x00];
+pub(crate) const EMPTY: [u8; 6] = [0x78, 0x9f, 0x3e, 0x22, 0x00, 0x00];
 
 /// The file of a stream.
 pub(crate) fn file_of(rt: &HostRuntime, command: &str, stream: &[u8]) -> Result<Vec<u8>, Fail> {
@@ -57,10 +57,6 @@ fn has(file: &[u8], at: usize, numbers: &[u32]) -> Result<(), Fail> {
     }
     Ok(())
 }
-
-const FREE: u32 = 0xFFFF_FFFF;
-
-const END: u32 = 0xFFFF_FFFE;
 
 #[test]
 fn the_file_of_an_empty_message(rt: HostRuntime) -> Result<(), Fail> {

@@ -13,9 +13,9 @@ const FOUR: [u8; 36] = [
     0, 7, 0x0e, 5, 0, 0, 0,
 ];
 
-const FREE: u32 = 0xFFFF_FFFF;
+pub(crate) const FREE: u32 = 0xFFFF_FFFF;
 
-const END: u32 = 0xFFFF_FFFE;
+pub(crate) const END: u32 = 0xFFFF_FFFE;
 
 /// The numbers of a compound file of three sectors that has nothing in it but its root, from some places on: the header,
 /// the table, the root's name, links and start, and three unused entries.

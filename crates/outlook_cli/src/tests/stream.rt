@@ -189,5 +189,6 @@ fn with_names(rt: &HostRuntime, count: u32) -> Result<Vec<u8>, Fail> {
 #[test]
 fn too_many_names(rt: HostRuntime) -> Result<(), Fail> {
     let input = with_names(&rt, 32_001)?;
-    ends(&rt, "to-tnef", &input, 3, b"unfit Names 32001\n")
+    ends(&rt, "to-tnef", &input, 3, b"unfit Names 32001\n")?;
+    ends(&rt, "to-msg", &input, 3, b"unfit Names 32001\n")
 }
