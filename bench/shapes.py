@@ -145,6 +145,15 @@ def messages_beside(count):
     return tnef(held(MESSAGE + message_list([])) * count)
 
 
+def store_behind(levels, count):
+    """Messages in messages, so many attachments in the innermost, and a store in the last of them."""
+    file = compound(Entry("Root Entry", children=[Entry("contents", b"few")]))
+    stream = tnef(attribute(2, 0x00069002, b"") * count, held(inputs.STORAGE + file))
+    for _ in range(levels):
+        stream = tnef(held(MESSAGE + stream))
+    return stream
+
+
 def store_levels(levels, count):
     """A stream of so many bytes below so many storages."""
     inner = Entry("contents", noise(count))
@@ -174,6 +183,12 @@ def passed_objects(count):
 def elements(kind, count):
     """One property with so many elements of four bytes: numbers, or texts without characters."""
     return message_list([struct.pack("<HHI", kind, 0x1013, count) + bytes(4 * count)])
+
+
+def empty_lists(count):
+    """Properties of several texts or Binaries each, of which there are none."""
+    kinds = (0x101E, 0x101F, 0x1102)
+    return message_list([struct.pack("<HHI", kinds[k % 3], 1 + k // 3, 0) for k in range(count)])
 
 
 def claimed_recipients(count):
@@ -237,6 +252,8 @@ def stream_shapes():
     yield Shape("tnef messages 32 deep", functools.partial(nested_messages, 32), 4 << 20, every, {}, tiny=False)
     yield Shape("tnef messages 33 deep", functools.partial(nested_messages, 33), 4 << 20, telling, refused(telling),
                 "refused 4 TooDeep", tiny=False)
+    yield Shape("tnef 32 messages, a store behind attachments", functools.partial(store_behind, 32), 100_000, every,
+                ROW_LIMITS, "unfit Attachments")
     yield Shape("tnef storages 32 deep", functools.partial(store_levels, 32), 4 << 20, every, {}, tiny=False)
     yield Shape("tnef storages 33 deep", functools.partial(store_levels, 33), 8 << 20, telling, refused(telling),
                 "refused 55 StoreTooDeep", tiny=False)
@@ -249,6 +266,8 @@ def stream_shapes():
     yield Shape("tnef passed-over objects", passed_objects, 500_000, every, {})
     yield Shape("tnef elements, numbers", functools.partial(elements, 0x1003), 1_000_000, every, {})
     yield Shape("tnef elements, texts", functools.partial(elements, 0x101F), 500_000, every, {})
+    yield Shape("tnef elements, texts of 8-bit characters", functools.partial(elements, 0x101E), 400_000, every, {})
+    yield Shape("tnef lists without elements", empty_lists, 45_000, every, {})
     yield Shape("tnef 2^31 recipients said", claimed_recipients, 1_000_000, telling, refused(telling), "refused 70")
     yield Shape("tnef 2^31 properties said", claimed_properties, 250_000, telling, refused(telling), "refused 7")
     yield Shape("tnef 2^31 elements said", claimed_elements, 1_000_000, telling, refused(telling), "refused 70")
@@ -538,9 +557,9 @@ def map_texts(order, count):
     return msg_with(used, name_storage(inputs.SET, entries, texts))
 
 
-def names_in_many_lists(count):
+def names_in_many_lists(unit, count):
     """Recipients with a thousand properties each, of the same hundred names of 255 units."""
-    texts = b"".join(struct.pack("<I", 510) + ("n" * 249 + f"{k:06}").encode("utf-16-le") + b"\0\0" for k in range(100))
+    texts = b"".join(struct.pack("<I", 510) + (unit * 249 + f"{k:06}").encode("utf-16-le") + b"\0\0" for k in range(100))
     entries = b"".join(struct.pack("<II", 516 * k, k << 16 | 3 << 1 | 1) for k in range(100))
     used = b"".join(struct.pack("<IIQ", 0x80000000 | k << 16 | kind, 6, 1) for k in range(100) for kind in WIDTHS)
     head = bytes(8) + struct.pack("<IIII", count, 0, count, 0) + bytes(8)
@@ -594,7 +613,9 @@ def file_shapes():
     yield Shape("msg elements in order", functools.partial(present_elements, "rising"), 40_000, every, {})
     yield Shape("msg elements in random order", functools.partial(present_elements, "random"), 40_000, every, {})
     yield Shape("msg names of one text", shared_text, 16_000, every, {})
-    yield Shape("msg names in many lists", names_in_many_lists, 40, every, {})
+    yield Shape("msg names in many lists", functools.partial(names_in_many_lists, "n"), 40, every, {})
+    yield Shape("msg names of control characters in many lists", functools.partial(names_in_many_lists, "\x01"), 80, every,
+                {"to-json": 3}, "unfit Size")
     yield Shape("msg values, small", inputs.msg_texts, 15_000, every, {})
     yield Shape("msg one value and a text in 1252", msg_value_and_text, 7 << 20, every, {}, tiny=False)
 
@@ -625,6 +646,14 @@ def multiparts(levels, closed, count):
         name = b"b%d" % level
         body = boundary(name, parts)
         parts = [mail(b"multipart/mixed; boundary=" + name, body if closed or level else body[:-4 - len(name)])]
+    return parts[0]
+
+
+def deep_lines(line, count):
+    """Multiparts 16 deep, and so many short lines in the innermost."""
+    parts = [mail(b"text/plain", line * count), carried()]
+    for level in reversed(range(16)):
+        parts = [mail(b"multipart/mixed; boundary=b%d" % level, boundary(b"b%d" % level, parts))]
     return parts[0]
 
 
@@ -681,6 +710,8 @@ def mail_shapes():
     yield shape("multiparts 16 deep", functools.partial(multiparts, 16, True), 8 << 20, tiny=False)
     yield shape("multiparts 17 deep", functools.partial(multiparts, 17, True), 8 << 20, "refused 91 PartTooDeep", False)
     yield shape("multiparts 16 deep, not closed", functools.partial(multiparts, 16, False), 8 << 20, "refused 92", False)
+    yield shape("multiparts 16 deep, empty lines", functools.partial(deep_lines, b"\n"), 2 << 20)
+    yield shape("multiparts 16 deep, short header lines", functools.partial(deep_lines, b":\n"), 1 << 20)
     yield shape("parts", many_parts, 1_000_000)
     yield shape("header lines", many_headers, 2_000_000)
     yield shape("a folded header", folded_header, 2_000_000)
@@ -775,6 +806,7 @@ def json_shapes():
     yield shape("elements, texts", functools.partial(json_list, "MultipleString", '""'), 500_000)
     for name, piece in (("zeros", b"0"), ("lists", b"[]"), ("objects", b"{}"), ("texts", b'""')):
         yield shape(f"of {name}", functools.partial(json_stream, piece), 1_000_000, "json Form at /")
+    yield shape("of lists of one list", functools.partial(json_stream, b"[" * 10 + b"0" + b"]" * 10), 200_000, "json Form at /")
     yield shape("opened lists", lambda n: b"[" * n, 4_000_000, "json NotJson")
     yield shape("blanks", lambda n: b" " * n + json_message(), 8 << 20, tiny=False)
     yield shape("one number", lambda n: b"1" * n, 8 << 20, "json", tiny=False)
@@ -837,6 +869,23 @@ def small(_):
     return inputs.tnef_integers(1)
 
 
+def in_turns(*edits):
+    """Edits in turns, one pair for each 25 that the lists have."""
+    return lambda count: joined(edits * (count // 25))
+
+
+def two_lists(count):
+    """A list of numbers of the message, and the same of its one recipient."""
+    properties = listed([integer(1 + number, 7) for number in range(count)])
+    return tnef(attribute(1, 0x00069003, properties), attribute(1, 0x00069004, struct.pack("<I", 1) + properties))
+
+
+def two_rows(count):
+    """So many recipients, and as many attachments."""
+    people = attribute(1, 0x00069004, struct.pack("<I", count) + bytes(4 * count))
+    return tnef(people, attribute(2, 0x00069002, b"") * count)
+
+
 def edit_shapes():
     for order in ORDERS:
         yield Edited(f"edit set {order}", functools.partial(set_words, order), small, 40_000)
@@ -847,6 +896,10 @@ def edit_shapes():
     yield Edited("edit add-recipient", lambda n: joined([["add-recipient", "."]] * n), small, 50_000, 3, "unfit Recipients")
     yield Edited("edit drop-recipient, the first", lambda n: joined([["drop-recipient", ".", "0"]] * n), recipients, 50_000)
     yield Edited("edit drop-attachment, the first", lambda n: joined([["drop-attachment", ".", "0"]] * n), attachments, 50_000)
+    yield Edited("edit set in turns, two places",
+                 in_turns(["set", ".", "0001", "Time", "7"], ["set", "./r0", "0001", "Time", "7"]), two_lists, 15_000)
+    yield Edited("edit drop in turns, two rows", in_turns(["drop-recipient", ".", "0"], ["drop-attachment", ".", "0"]),
+                 two_rows, 50_000, 3, "unfit")
     yield Edited("edit 32 messages deep", deep_words, lambda n: nested_messages(32, 8), 15_000)
     yield Edited("edit the last without a place", lambda n: [*set_words("random", n), "add-recipient", "./m0"], small,
                  40_000, 9, "edit")
