@@ -250,10 +250,12 @@ impl Reason {
     }
 }
 
-/// A reason, and the place of the field that it is reported at, in bytes from the first of the input.
+/// A reason, and the place of the field that it is reported at.
 #[derive(Clone, Copy, Debug, PartialEq, Eq)]
 pub struct Fault {
+    /// What is wrong there.
     pub reason: Reason,
+    /// The place, in bytes from the first of the input.
     pub offset: u64,
 }
 

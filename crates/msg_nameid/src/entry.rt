@@ -8,20 +8,12 @@ ghost use Rattle.msg_model.specs.NameMap as model;
 ghost use Rattle.prop_names.specs.Meaning.{name_of};
 ghost use Rattle.msg_nameid.specs.Read.{streams_seen, entry_seen};
 
+use crate::sets::{PS_MAPI, PS_PUBLIC_STRINGS};
 use crate::texts::{text_at, word_at};
 use carrier_io::{Blob, Fault, Reason, Stop};
 use cfb_sectors::{StreamView, file_offset};
 use prop_names::{Guid, Name};
 use std::alloc::Global;
-
-/// The sets of the indexes 1 and 2. [MS-OXPROPS 1.3.2]
-const PS_MAPI: Guid = Guid([
-    0x28, 0x03, 0x02, 0x00, 0x00, 0x00, 0x00, 0x00, 0xc0, 0x00, 0x00, 0x00, 0x00, 0x00, 0x00, 0x46,
-]);
-
-const PS_PUBLIC_STRINGS: Guid = Guid([
-    0x29, 0x03, 0x02, 0x00, 0x00, 0x00, 0x00, 0x00, 0xc0, 0x00, 0x00, 0x00, 0x00, 0x00, 0x00, 0x46,
-]);
 
 /// The GUIDs, the entries and the texts of a name map. [MS-OXMSG 2.2.3.1]
 #[derive(Clone, Copy)]
@@ -101,8 +93,8 @@ fn set_at(guids: &StreamView<'_>, index: u16) -> Guid
     ensures { result.0 ≡ model.set_at (bytes_of guids.now) index }
 {
     match index {
-        1 => PS_MAPI,
-        2 => PS_PUBLIC_STRINGS,
+        1 => Guid(PS_MAPI),
+        2 => Guid(PS_PUBLIC_STRINGS),
         _ => listed_set(guids, index),
     }
 }

@@ -28,6 +28,9 @@ fn add_elements<'t, B: Blob>(
     requires at { at < length files.old.storages }
     ensures { OnOk result (files.new ≡ with_streams files.old at (element_streams tag (kind_number kind - 0x1000) 0 list.now)) }
 {
+    if list.len() == 0 {
+        return Ok(());
+    }
     let front = element_front(tag);
     let zeros = kind.part_null_size() as u8;
     files.add_row(at, text_of(&front), list.as_slice(), zeros)

@@ -8,8 +8,11 @@ use tree_text8::Unmapped;
 /// How a command ended.
 #[derive(Debug, Drop)]
 pub enum Status {
+    /// All was written.
     Done,
+    /// The input's first fault.
     Refused(Fault),
+    /// The words of the command are none that it knows.
     Usage,
     /// The first text that its code page doesn't map.
     Unmapped(Unmapped),
@@ -19,8 +22,11 @@ pub enum Status {
     Json(JsonFault),
     /// The message passes a limit of the target.
     Unfit(Limit),
+    /// The input couldn't be read.
     ReadFault,
+    /// The output couldn't be written.
     WriteFault,
+    /// Memory was refused.
     NoMemory,
 }
 

@@ -9,7 +9,7 @@ use crate::digits::{upper_digits4, upper_digits8};
 use crate::keys::Key;
 use crate::labels::set_label;
 use crate::names::{Guid, Name};
-use carrier_io::{Failed, Sink, Units, write_parts, write_pieces};
+use carrier_io::{Failed, Sink, Units, write_pieces};
 use uuid::Uuid;
 
 /// Appends the key: an id as four digits; a name as its set, a slash, and its number as eight digits or its text in
@@ -92,5 +92,6 @@ pub fn print_unit<W: Sink>(unit: u16, sink: &mut W) -> Result<(), Failed>
 fn print_escape<W: Sink>(unit: u16, sink: &mut W) -> Result<(), Failed>
     ensures { Writes (W.held sink.old) (W.held sink.new) (W.faults sink.old) (W.faults sink.new) result (0x5C ∷ hex_digits upper 4 unit) }
 {
-    write_parts(sink, &[b"\\", &upper_digits4(unit)])
+    let [first, second, third, fourth] = upper_digits4(unit);
+    write_pieces(sink, &[b'\\', first, second, third, fourth])
 }

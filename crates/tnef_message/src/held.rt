@@ -68,6 +68,9 @@ impl<'a> Holds<StreamView<'a>> for Held<'a> {
 
 impl<'a> Holds<Vec<u8>> for Held<'a> {
     fn holding(alloc: Global, bytes: Vec<u8>) -> Result<Held<'a>, NoMemory> {
+        if bytes.is_empty() {
+            return Ok(Held::Slice(&[]));
+        }
         Ok(Held::Owned(Box::new(alloc, bytes)?))
     }
 }

@@ -20,7 +20,9 @@ use tnef_message::{Held, read_tnef};
 /// What was accepted, by the form that it had. Values stay in the input.
 #[derive(Drop)]
 pub enum Input<'a> {
+    /// That of a .msg file.
     Msg(Accepted<StreamView<'a>>),
+    /// That of a TNEF stream, or of a mail that carries one.
     Tnef(Accepted<Held<'a>>),
 }
 

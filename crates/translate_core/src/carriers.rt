@@ -5,11 +5,14 @@ ghost use Rattle.translate_core.specs.Inputs.{front_of};
 
 use carrier_io::u32_at;
 
-/// The forms that carry a message: a .msg file, a TNEF stream, and a mail with a TNEF stream in it.
+/// The forms that carry a message.
 #[derive(Clone, Copy, Debug, PartialEq, Eq)]
 pub enum Carrier {
+    /// A .msg file. [MS-OXMSG]
     Msg,
+    /// A TNEF stream. [MS-OXTNEF]
     Tnef,
+    /// A mail with a TNEF stream in it. [RFC 2045, RFC 2046]
     Envelope,
 }
 
