@@ -15,15 +15,8 @@ fn opened<'f>(alloc: Global, bytes: &'f [u8], walk: &mut Walk) -> Result<Files<'
     Ok(open_files(alloc, bytes, walk)?)
 }
 
-/// What the first so many bytes of a layout's file are refused for, after changes.
-fn refusal(
-    alloc: Global,
-    layout: &Layout,
-    changes: &[Row<'_>],
-    len: usize,
-) -> Result<Option<(Reason, u64)>, Fail> {
-    let file = file_of(alloc, layout, changes)?;
-    let bytes = file.get(..len).ok_or("too short")?;
+/// What bytes are refused for as a compound file.
+pub fn refusal_of(alloc: Global, bytes: &[u8]) -> Result<Option<(Reason, u64)>, Fail> {
     if bytes.len() > 20_480 {
         return Err("too long")?;
     }
@@ -34,11 +27,27 @@ fn refusal(
     }
 }
 
+/// What the first so many bytes of a layout's file are refused for, after changes.
+fn refusal(
+    alloc: Global,
+    layout: &Layout,
+    changes: &[Row<'_>],
+    len: usize,
+) -> Result<Option<(Reason, u64)>, Fail> {
+    let file = file_of(alloc, layout, changes)?;
+    let bytes = file.get(..len).ok_or("too short")?;
+    refusal_of(alloc, bytes)
+}
+
 /// What was changed in a file, how many of its bytes there are, and what it is refused for.
 type Refusal = (&'static [Row<'static>], usize, Option<(Reason, u64)>);
 
 /// One number that was changed in a whole file of version 3, and what the file is refused for.
-const CHANGES: [(Row<'static>, Reason, u64); 24] = [
+const CHANGES: [(Row<'static>, Reason, u64); 28] = [
+    ((4, &[0xE11A_B1A0]), Reason::BadFileSignature, 0),
+    ((28, &[0x0009_FEFF]), Reason::BadHeader, 28),
+    ((32, &[7]), Reason::BadHeader, 32),
+    ((56, &[4095]), Reason::BadHeader, 56),
     ((1220, &[1]), Reason::EntryShared, 1220),
     ((1224, &[8]), Reason::EntryOutOfRange, 1224),
     ((1728, &[0x0105_0030]), Reason::BadEntryType, 1730),

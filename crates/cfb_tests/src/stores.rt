@@ -1,3 +1,4 @@
+use crate::directory::refusal_of;
 use crate::files::{END, FREE, Row, put, put_rows};
 use carrier_io::{Blob, Fault, Reason, Stop, Walk};
 use cfb_directory::open_files;
@@ -60,6 +61,22 @@ fn nested4(alloc: Global) -> Result<Vec<u8>, AllocError> {
     put_rows(&mut file, &FOURTH);
     put_storages(&mut file, 8192, 1);
     Ok(file)
+}
+
+#[test]
+fn storages_101_deep(rt: HostRuntime) -> Result<(), Fail> {
+    let mut file = vec![in rt.alloc(); 0; 14_336]?;
+    put_rows(&mut file, &HEADER);
+    put_rows(&mut file, &THIRD);
+    // The directory has 26 sectors.
+    for sector in 9..26 {
+        put(&mut file, 512 + 4 * sector, &[sector as u32 + 1]);
+    }
+    put(&mut file, 616, &[END]);
+    put_storages(&mut file, 1024, 101);
+    let end = refusal_of(rt.alloc(), &file)?;
+    assert_eq!(rt; end, Some((Reason::StorageTooDeep, 14_018)));
+    Ok(())
 }
 
 /// What is not so fails the test.

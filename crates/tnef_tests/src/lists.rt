@@ -91,6 +91,12 @@ fn faults_of_lists(rt: HostRuntime) -> Result<(), Fail> {
     let alloc = rt.alloc();
     let mut other_kind = NAMED;
     other_kind[24] = 2;
+    let mut odd_name = NAMED;
+    odd_name[24] = 1;
+    let mut other_type = TWO_TEXTS;
+    other_type[4] = 0x20;
+    let mut single = TWO_TEXTS;
+    single[5] = 0;
     let double = [
         2, 0, 0, 0, 3, 0, 0x17, 0, 1, 0, 0, 0, 3, 0, 0x17, 0, 2, 0, 0, 0,
     ];
@@ -103,6 +109,9 @@ fn faults_of_lists(rt: HostRuntime) -> Result<(), Fail> {
     object[12] = 15;
     let table = [
         (&other_kind[..], Reason::BadNameKind, 73),
+        (&odd_name[..], Reason::BadNameSize, 77),
+        (&other_type[..], Reason::UnknownListType, 53),
+        (&single[..], Reason::BadCount, 57),
         (&double[..], Reason::DuplicateListProperty, 61),
         (&double_first[..], Reason::DuplicateListProperty, 61),
         (&object[..], Reason::BadSize, 61),

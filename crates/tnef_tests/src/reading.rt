@@ -123,7 +123,9 @@ fn faults_of_attributes(rt: HostRuntime) -> Result<(), Fail> {
     twice.extend_from_slice(&ONE)?;
     refused(&rt, &twice, Reason::DoubleAttribute, 63)?;
     let lone = with_attribute(&rt, 2, 0x0006_9005, &[0; 4])?;
-    refused(&rt, &lone, Reason::NoAttachment, 40)
+    refused(&rt, &lone, Reason::NoAttachment, 40)?;
+    let third = with_attribute(&rt, 3, 0x0006_9003, &[0; 4])?;
+    refused(&rt, &third, Reason::BadLevel, 40)
 }
 
 #[test]
