@@ -41,7 +41,7 @@ fn is_refused(rt: &HostRuntime, bytes: &[u8], reason: Reason, offset: u64) -> bo
 
 #[test]
 fn unwraps(rt: HostRuntime) -> Result<(), Fail> {
-    let rows: [&[u8]; 7] = [
+    let rows: [&[u8]; 9] = [
         WRAPPED,
         b"Content-Type: multipart/mixed; boundary=\"b1\"\n\n--b1\nContent-Type: text/plain\n\nhello\n--b1\nContent-Type: application/ms-tnef; name=\"winmail.dat\"\nContent-Transfer-Encoding: base64\n\neJ8+IgEA\n--b1--\n",
         // Letters in either case, folded fields, and both line ends.
@@ -50,6 +50,10 @@ fn unwraps(rt: HostRuntime) -> Result<(), Fail> {
         b"Content-Type: Multipart/x; a=\"boundary=no;\"; BOUNDARY = \"b\\\"1;\" ; boundary=b2\n\n--b\"1;x\n--b\"1; \t\r\nContent-Type: application/ms-tnef\nContent-Transfer-Encoding: base64\n\neJ8+IgEA\n--b\"1;--\t\n--b\"1;\n no header",
         // A boundary of 70 characters.
         b"Content-Type: multipart/mixed; boundary=xxxxxxxxxxxxxxxxxxxxxxxxxxxxxxxxxxxxxxxxxxxxxxxxxxxxxxxxxxxxxxxxxxxxxx\n\n--xxxxxxxxxxxxxxxxxxxxxxxxxxxxxxxxxxxxxxxxxxxxxxxxxxxxxxxxxxxxxxxxxxxxxx\nContent-Type: application/ms-tnef\nContent-Transfer-Encoding: base64\n\neJ8+IgEA\n--xxxxxxxxxxxxxxxxxxxxxxxxxxxxxxxxxxxxxxxxxxxxxxxxxxxxxxxxxxxxxxxxxxxxxx--",
+        // The text of a delimiter line and of a closing line within lines.
+        b"Content-Type: multipart/mixed; boundary=b\n\nx--b\nContent-Type: application/ms-tnef\nContent-Transfer-Encoding: base64\n\nAAAA\n--b\nContent-Type: text/plain\n\nx --b--\n--b\nContent-Type: application/ms-tnef\nContent-Transfer-Encoding: base64\n\neJ8+IgEA\n--b--\n",
+        // A boundary of 40 characters, and lines that are its delimiter line and its closing line for 31 bytes.
+        b"Content-Type: multipart/mixed; boundary=aaaaaaaaaaaaaaaaaaaaaaaaaaaaabbbbbbbbbbb\n\n--aaaaaaaaaaaaaaaaaaaaaaaaaaaaaccccccccccc\nContent-Type: application/ms-tnef\nContent-Transfer-Encoding: base64\n\nAAAA\n--aaaaaaaaaaaaaaaaaaaaaaaaaaaaaccccccccccc--\n--aaaaaaaaaaaaaaaaaaaaaaaaaaaaabbbbbbbbbbb\nContent-Type: application/ms-tnef\nContent-Transfer-Encoding: base64\n\neJ8+IgEA\n--aaaaaaaaaaaaaaaaaaaaaaaaaaaaabbbbbbbbbbb--\n",
         // The first of two TNEF parts.
         b"Content-Type: multipart/mixed; boundary=b\n\n--b\nContent-Type: application/ms-tnef\nContent-Transfer-Encoding: base64\n\neJ8+IgEA\n--b\nContent-Type: application/ms-tnef\nContent-Transfer-Encoding: base64\n\nAAAA\n--b--\n",
         // A header that a part's end ends.

@@ -2,6 +2,7 @@ pub mod Canonical
 pub mod Characters
 pub mod Coded
 pub mod Kept
+pub mod Fronts
 pub mod Cuts
 pub mod Pieces
 pub mod Quoted

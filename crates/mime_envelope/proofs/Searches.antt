@@ -1,5 +1,5 @@
 -- What a search gives, by what was found on the way.
-use Rattle.std.proofs.Common.{◌≡◌, ℕ, zero, suc, ◌+◌, Bool, true, false, if◌then◌else◌, List, [], ◌∷◌, length, codes, Option, Some, None, Ok, Err, refl, sym, ap, ◌∙◌, arith}
+use Rattle.std.proofs.Common.{◌≡◌, ℕ, zero, suc, ◌+◌, Bool, true, false, if◌then◌else◌, List, [], ◌∷◌, length, take, drop, codes, Option, Some, None, Ok, Err, refl, sym, ap, ◌∙◌, arith}
 use Rattle.std.specs.List.{concat, list_any}
 use Rattle.carrier_io.specs.declared.reasons.Stop.{Stop}
 use Rattle.carrier_io.specs.declared.reasons.Stop.TheVariants as stops
@@ -12,7 +12,7 @@ use Rattle.mail_model.specs.Entities.{body_of, field, is_tnef, is_multipart, bou
 use Rattle.mail_model.specs.Envelope.{Found, Part, or_else, first_of, in_parts, in_multipart, search}
 use Rattle.mail_model.proofs.Lines.{concat-lines}
 use Rattle.mail_model.proofs.Entities.{parts-none, parts-closing, parts-delimiter, parts-next}
-use Rattle.mime_envelope.specs.Parts.{boundary_test}
+use Rattle.mime_envelope.specs.Parts.{boundary_test, NoPartBefore}
 
 pub search_fault : (more at : ℕ) (bytes : List ℕ) (g : Fault) → body_of true at (lines bytes) ≡ Err g → search more at bytes ≡ Err g
 unfolding search
@@ -76,17 +76,22 @@ pub first_closing : (s : ℕ → List ℕ → Found) (b : List ℕ) (at : ℕ) (
 unfolding first_of
 first_closing s b at bytes line after split closing = ap (first_of s) (parts-closing b at bytes line after split closing)
 
--- the part behind this line, or those behind it
-abbrev pub here : (ℕ → List ℕ → Found) → List ℕ → Bool → ℕ → List (List ℕ) → Found
-here s b begins at after = if begins then s at (concat (part_from b after)) else Ok None
+-- an entity, if it is a part
+abbrev pub here : (ℕ → List ℕ → Found) → Bool → ℕ → List ℕ → Found
+here s begins at bytes = if begins then s at bytes else Ok None
 
-first_by : (s : ℕ → List ℕ → Found) (b : List ℕ) (at : ℕ) (bytes line after : List ℕ) (v : Bool) → is_delimiter b line ≡ v → lines bytes ≡ line ∷ lines after → false ≡ is_closing b line → first_of s (parts b at (lines bytes)) ≡ or_else (here s b v (at + length line) (lines after)) (first_of s (parts b (at + length line) (lines after)))
+first_by : (s : ℕ → List ℕ → Found) (b : List ℕ) (at : ℕ) (bytes line after : List ℕ) (v : Bool) → is_delimiter b line ≡ v → lines bytes ≡ line ∷ lines after → false ≡ is_closing b line → first_of s (parts b at (lines bytes)) ≡ or_else (here s v (at + length line) (concat (part_from b (lines after)))) (first_of s (parts b (at + length line) (lines after)))
 unfolding first_of
 first_by s b at bytes line after true is split closing = ap (first_of s) (parts-delimiter b at bytes line after split closing (sym is))
 first_by s b at bytes line after false is split closing = ap (first_of s) (parts-next b at bytes line after split closing (sym is))
 
-pub first_line : (s : ℕ → List ℕ → Found) (b : List ℕ) (at : ℕ) (bytes line after : List ℕ) → lines bytes ≡ line ∷ lines after → false ≡ is_closing b line → first_of s (parts b at (lines bytes)) ≡ or_else (here s b (is_delimiter b line) (at + length line) (lines after)) (first_of s (parts b (at + length line) (lines after)))
-first_line s b at bytes line after split closing = first_by s b at bytes line after (is_delimiter b line) refl split closing
+-- the part behind a line, or those behind it
+pub first_part : (s : ℕ → List ℕ → Found) (b : List ℕ) (at : ℕ) (bytes line after part others : List ℕ) (n : ℕ) (begins : Bool) → lines bytes ≡ line ∷ lines after → false ≡ is_closing b line → begins ≡ is_delimiter b line → take n after ≡ concat (part_from b (lines after)) → NoPartBefore b n after → part ≡ take n after → others ≡ drop n after → length part ≡ n → first_of s (parts b at (lines bytes)) ≡ or_else (here s begins (at + length line) part) (first_of s (parts b (at + length line + length part) (lines others)))
+first_part s b at bytes line after part others n begins split closing delimiter value none front back size =
+    let next = at + length line in
+    first_by s b at bytes line after begins (sym delimiter) split closing
+    ∙ ap (λ (z : List ℕ). or_else (here s begins next z) (first_of s (parts b next (lines after)))) (sym value ∙ sym front)
+    ∙ ap (λ (z : List (ℕ × List ℕ)). or_else (here s begins next part) (first_of s z)) (none next ∙ (λ i. parts b (next + sym size i) (lines (sym back i))))
 
 -- a reader that stopped stops what stands on it
 pub fails_marks : (s : Stop) (search_at : ℕ → List ℕ → Found) (at : ℕ) (b : Option (List ℕ)) (place : ℕ) (body : List (List ℕ)) (x : Found) → Fails {Y = List ℕ} s (boundary_test at b) → x ≡ in_multipart search_at at b place body → Fails {Y = Option Part} s x

@@ -1,12 +1,13 @@
 -- A search's steps, and what the types mean.
-use Rattle.std.specs.Prelude.{◌≡◌, ◌⊎◌, ℕ, ◌+◌, ◌%◌, Bool, true, false, not, if◌then◌else◌, List, [], ◌++◌, length, Vec, Option, Some, None, Result, Ok, Err}
+use Rattle.std.specs.Prelude.{◌≡◌, ◌⊎◌, ℕ, ◌+◌, ◌%◌, drop, Bool, true, false, not, if◌then◌else◌, ◌==◌, ◌&&◌, List, [], ◌∷◌, ◌++◌, length, take, codes, nat_eq, Vec, Option, Some, None, Result, Ok, Err}
 use Rattle.std.specs.Global.{Global}
-use Rattle.std.specs.List.{concat}
+use Rattle.std.specs.List.{starts_with}
 use Rattle.carrier_model.specs.Bytes.{AllBytes}
 use Rattle.carrier_model.specs.Reasons.{BAD_BOUNDARY}
 use Rattle.carrier_model.specs.Trail.{Fault}
 use Rattle.mail_model.specs.Base64.{base64_text}
-use Rattle.mail_model.specs.Entities.{is_boundary, parts, part_from}
+use Rattle.mail_model.specs.Lines.{lines}
+use Rattle.mail_model.specs.Entities.{is_boundary, parts}
 use Rattle.mail_model.specs.Envelope as envelope
 use Rattle.mime_envelope.specs.declared.part.Part.{Part}
 use Rattle.mime_envelope.specs.Views.{field_view}
@@ -27,9 +28,26 @@ boundary_test at (Some b) = if is_boundary b then Ok b else Err (BAD_BOUNDARY, a
 abbrev pub first_in : ℕ → List ℕ → ℕ → List (List ℕ) → envelope.Found
 first_in more b at lines = envelope.first_of (envelope.search more) (parts b at lines)
 
--- the part that begins here, if one does
-abbrev pub part_at : ℕ → Bool → List ℕ → ℕ → List (List ℕ) → envelope.Found
-part_at more begins b at lines = if begins then envelope.search more at (concat (part_from b lines)) else Ok None
+-- an entity, if it is a part
+abbrev pub part_at : ℕ → Bool → ℕ → List ℕ → envelope.Found
+part_at more begins at bytes = if begins then envelope.search more at bytes else Ok None
+
+-- what delimiter lines and closing lines begin with, as far as it is searched for
+unfoldable pub delimiter_front : List ℕ → List ℕ
+delimiter_front b = take 31 (codes "--" ++ b)
+
+-- what stands behind the first line feed that this front follows
+unfoldable pub later_line : List ℕ → List ℕ → List ℕ
+later_line front [] = []
+later_line front (c ∷ rest) = if c == 10 && starts_with nat_eq rest front then rest else later_line front rest
+
+-- what stands from the first line on that begins with this front; nothing where none does
+abbrev pub line_from : List ℕ → List ℕ → List ℕ
+line_from front bytes = if starts_with nat_eq bytes front then bytes else later_line front bytes
+
+-- no part of a multipart begins in the first n bytes of these lines, and none ends there the multipart
+abbrev pub NoPartBefore : List ℕ → ℕ → List ℕ → Type 0
+NoPartBefore b n bytes = (at : ℕ) → parts b at (lines bytes) ≡ parts b (at + n) (lines (drop n bytes))
 
 -- a part's base64 text, and the offset of its body's end
 abbrev pub coded_view : Part → ℕ × List ℕ

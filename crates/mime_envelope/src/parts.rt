@@ -3,6 +3,7 @@ ghost use Rattle.std.specs.Prelude.{◌≡◌, ◌≤◌, length, take};
 ghost use Rattle.std.specs.List.{concat, list_any};
 ghost use Rattle.mail_model.specs.Lines as text;
 ghost use Rattle.mail_model.specs.Entities as entity;
+ghost use Rattle.mime_envelope.specs.Parts.{NoPartBefore};
 
 use crate::marks::Marks;
 use crate::text::split_line;
@@ -11,13 +12,13 @@ use crate::text::split_line;
 pub fn has_closing(marks: &Marks, bytes: &[u8]) -> bool
     ensures { result ≡ list_any (entity.is_closing marks.now.boundary.items) (text.lines bytes.now) }
 {
-    let mut rest = bytes;
+    let mut rest = marks.next_mark(bytes);
     while !rest.is_empty() {
         let (line, after) = split_line(rest);
         if marks.closes(line) {
             return true;
         }
-        rest = after;
+        rest = marks.next_mark(after);
     }
     false
 }
@@ -26,8 +27,9 @@ pub fn has_closing(marks: &Marks, bytes: &[u8]) -> bool
 pub fn part_size(marks: &Marks, bytes: &[u8]) -> usize
     ensures value { take result bytes.now ≡ concat (entity.part_from marks.now.boundary.items (text.lines bytes.now)) }
     ensures within { result ≤ length bytes.now }
+    ensures others { NoPartBefore marks.now.boundary.items result bytes.now }
 {
-    let mut rest = bytes;
+    let mut rest = marks.next_mark(bytes);
     while !rest.is_empty() {
         let (line, after) = split_line(rest);
         if marks.closes(line) {
@@ -36,7 +38,7 @@ pub fn part_size(marks: &Marks, bytes: &[u8]) -> usize
         if marks.delimits(line) {
             return bytes.len() - rest.len();
         }
-        rest = after;
+        rest = marks.next_mark(after);
     }
     bytes.len()
 }

@@ -103,31 +103,31 @@ fn search_parts<'a>(
             return Ok(None);
         }
         place += line.len() as u64;
-        if let Some(part) = search_part(alloc, more, marks.delimits(line), marks, place, after)? {
-            return Ok(Some(part));
+        let (part, others) = after.split_at(part_size(marks, after));
+        if let Some(found) = search_part(alloc, more, marks.delimits(line), place, part)? {
+            return Ok(Some(found));
         }
-        rest = after;
+        place += part.len() as u64;
+        rest = others;
     }
     Ok(None)
 }
 
-/// The first TNEF part in the part that begins here, if one does.
+/// The first TNEF part in what stands between two delimiter lines, if it is a part.
 #[cycle(searching)]
 fn search_part<'a>(
     alloc: Global,
     more: u8,
     begins: bool,
-    marks: &Marks,
     at: u64,
     bytes: &'a [u8],
 ) -> Result<Option<Part<'a>>, Stop>
     requires { at + length bytes.now < 2 ^ 64 }
-    ensures value { Gives found_view result (part_at more begins marks.now.boundary.items at (text.lines bytes.now)) }
+    ensures value { Gives found_view result (part_at more begins at bytes.now) }
     ensures within { IfOk result (λ f. IfSome f (λ p. p.place + length p.body.now ≤ at + length bytes.now)) }
 {
     if !begins {
         return Ok(None);
     }
-    let (part, _) = bytes.split_at(part_size(marks, bytes));
-    search(alloc, more, at, part)
+    search(alloc, more, at, bytes)
 }

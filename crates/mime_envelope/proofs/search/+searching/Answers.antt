@@ -6,7 +6,7 @@ use Rattle.mail_model.specs.Envelope.{or_else, first_of, search}
 use Rattle.mime_envelope.specs.Views.{field_view}
 use Rattle.mime_envelope.specs.Parts.{found_view}
 use Rattle.mime_envelope.proofs.Coded.{none_left}
-use Rattle.mime_envelope.proofs.Searches.{search_fault, search_none, search_tnef, search_other, search_deep, search_multipart, good_boundary, missing_close, closed, first_none, first_closing, first_line, here, fails_marks, fails_here, found_here, not_here, tnef_part}
+use Rattle.mime_envelope.proofs.Searches.{search_fault, search_none, search_tnef, search_other, search_deep, search_multipart, good_boundary, missing_close, closed, first_none, first_closing, first_part, here, fails_marks, fails_here, found_here, not_here, tnef_part}
 use Rattle.mime_envelope.proofs.search.+searching.Goals as goal
 
 pub search-returns-in_err-place-clause-value : goal.search-returns-in_err-place-clause-value
@@ -56,34 +56,49 @@ search-returns-clause-value t c =
 pub search_parts-returns-then-closes-clause-value : goal.search_parts-returns-then-closes-clause-value
 search_parts-returns-then-closes-clause-value t c = c.loop-rest.invariant.same ∙ first_closing (search c.args.more) c.args.marks.now.boundary.items c.loop-rest.place c.loop-rest.rest.now c.split_line.result.0.now c.split_line.result.1.now c.split_line.ensures.lines c.if-closes.ensures
 
-pub search_parts-returns-in_err-part-clause-value : goal.search_parts-returns-in_err-part-clause-value
-search_parts-returns-in_err-part-clause-value t c =
+pub search_parts-returns-in_err-found-clause-value : goal.search_parts-returns-in_err-found-clause-value
+search_parts-returns-in_err-found-clause-value t c =
     let p = err_from_is_err_and c.from_residual.result c.from_residual.ensures.1 in
+    let s = search c.args.more in
     let b = c.args.marks.now.boundary.items in
+    let line = c.split_line.result.0.now in
     let after = c.split_line.result.1.now in
-    let next = c.loop-rest.place + length c.split_line.result.0.now in
-    let others = first_of (search c.args.more) (parts b next (lines after)) in
-    let is = c.loop-rest.invariant.same ∙ first_line (search c.args.more) b c.loop-rest.place c.loop-rest.rest.now c.split_line.result.0.now after c.split_line.ensures.lines c.if-closes.ensures ∙ ap (λ (v : Bool). or_else (here (search c.args.more) b v next (lines after)) others) (sym c.delimits.ensures) in
-    rw (p.1, p.2) (fails_here _ (here (search c.args.more) b c.delimits.result next (lines after)) others _ c.in_err-part.ensures.value is)
+    let part = c.split_at.result.0.now in
+    let others = c.split_at.result.1.now in
+    let next = c.loop-rest.place + length line in
+    let first = here s c.delimits.result next part in
+    let later = first_of s (parts b (next + length part) (lines others)) in
+    let is = c.loop-rest.invariant.same ∙ first_part s b c.loop-rest.place c.loop-rest.rest.now line after part others c.part_size.result c.delimits.result c.split_line.ensures.lines c.if-closes.ensures c.delimits.ensures c.part_size.ensures.value c.part_size.ensures.others c.split_at.ensures.front c.split_at.ensures.back c.split_at.ensures.front_len in
+    rw (p.1, p.2) (fails_here _ first later _ c.in_err-found.ensures.value is)
 
 pub search_parts-returns-in-Some-clause-value : goal.search_parts-returns-in-Some-clause-value
 search_parts-returns-in-Some-clause-value t c =
+    let s = search c.args.more in
     let b = c.args.marks.now.boundary.items in
+    let line = c.split_line.result.0.now in
     let after = c.split_line.result.1.now in
-    let next = c.loop-rest.place + length c.split_line.result.0.now in
-    let others = first_of (search c.args.more) (parts b next (lines after)) in
-    let is = c.loop-rest.invariant.same ∙ first_line (search c.args.more) b c.loop-rest.place c.loop-rest.rest.now c.split_line.result.0.now after c.split_line.ensures.lines c.if-closes.ensures ∙ ap (λ (v : Bool). or_else (here (search c.args.more) b v next (lines after)) others) (sym c.delimits.ensures) in
-    found_here (here (search c.args.more) b c.delimits.result next (lines after)) others _ _ (c.in_ok-part.ensures.value ∙ ap (λ (o : Option _). Ok (found_view o)) c.in-Some.is) is
+    let part = c.split_at.result.0.now in
+    let others = c.split_at.result.1.now in
+    let next = c.loop-rest.place + length line in
+    let first = here s c.delimits.result next part in
+    let later = first_of s (parts b (next + length part) (lines others)) in
+    let is = c.loop-rest.invariant.same ∙ first_part s b c.loop-rest.place c.loop-rest.rest.now line after part others c.part_size.result c.delimits.result c.split_line.ensures.lines c.if-closes.ensures c.delimits.ensures c.part_size.ensures.value c.part_size.ensures.others c.split_at.ensures.front c.split_at.ensures.back c.split_at.ensures.front_len in
+    found_here first later _ _ (c.in_ok-found.ensures.value ∙ ap (λ (o : Option _). Ok (found_view o)) c.in-Some.is) is
 
 pub search_parts-loop-rest-preserved : goal.search_parts-loop-rest-preserved
 search_parts-loop-rest-preserved t c =
+    let s = search c.args.more in
     let b = c.args.marks.now.boundary.items in
+    let line = c.split_line.result.0.now in
     let after = c.split_line.result.1.now in
-    let next = c.loop-rest.place + length c.split_line.result.0.now in
-    let others = first_of (search c.args.more) (parts b next (lines after)) in
-    let is = c.loop-rest.invariant.same ∙ first_line (search c.args.more) b c.loop-rest.place c.loop-rest.rest.now c.split_line.result.0.now after c.split_line.ensures.lines c.if-closes.ensures ∙ ap (λ (v : Bool). or_else (here (search c.args.more) b v next (lines after)) others) (sym c.delimits.ensures) in
+    let part = c.split_at.result.0.now in
+    let others = c.split_at.result.1.now in
+    let next = c.loop-rest.place + length line in
+    let first = here s c.delimits.result next part in
+    let later = first_of s (parts b (next + length part) (lines others)) in
+    let is = c.loop-rest.invariant.same ∙ first_part s b c.loop-rest.place c.loop-rest.rest.now line after part others c.part_size.result c.delimits.result c.split_line.ensures.lines c.if-closes.ensures c.delimits.ensures c.part_size.ensures.value c.part_size.ensures.others c.split_at.ensures.front c.split_at.ensures.back c.split_at.ensures.front_len in
     record {
-      same = not_here (here (search c.args.more) b c.delimits.result next (lines after)) others _ (c.in_ok-part.ensures.value ∙ ap (λ (o : Option _). Ok (found_view o)) c.in_default.is) is;
+      same = not_here first later _ (c.in_ok-found.ensures.value ∙ ap (λ (o : Option _). Ok (found_view o)) c.in_default.is) is;
       within = omega arith;
     }
 
