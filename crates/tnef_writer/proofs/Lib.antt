@@ -4,6 +4,7 @@ pub mod WrittenStreams
 pub mod FoundIntegers
 pub mod BodyVariants
 pub mod FittingStores
-pub mod GatheredStores
+pub mod AddedPlans
 pub mod PlannedTrees
-pub mod StoreLists
+pub mod SplitPlans
+pub mod TreeLists

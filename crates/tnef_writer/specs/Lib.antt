@@ -2,5 +2,5 @@ pub mod Written
 pub mod Plans
 pub mod PlanViews
 pub mod Carried
-pub mod Gathered
+pub mod MessagePlans
 pub mod TreeStores

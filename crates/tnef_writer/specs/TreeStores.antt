@@ -29,12 +29,9 @@ stores_at one = stores_in_body one.1
 abbrev pub files_of : List Store → List (List ℕ)
 files_of = map store_bytes
 
--- how long these are
+-- how long one is
 abbrev pub size_of : Store → ℕ
 size_of s = capped (length (store_bytes s))
-
-abbrev pub sizes_of : List Store → List ℕ
-sizes_of = map size_of
 
 -- each of the files may be an output
 abbrev pub AllFit : List Store → Type 0

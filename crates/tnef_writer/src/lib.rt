@@ -2,9 +2,8 @@
 #![tactic(auto)]
 
 mod plan;
-mod store_counts;
-mod store_plans;
-mod store_sizes;
+mod planned;
+mod planning;
 mod write_attributes;
 mod write_lists;
 mod write_message;

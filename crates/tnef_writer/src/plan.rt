@@ -2,11 +2,9 @@
 ghost use Rattle.msg_tree.specs.Whole.{plain_of};
 ghost use Rattle.tnef_writer.specs.Plans.{IsPlanned};
 
-use crate::store_plans::{StorePlans, plan_stores};
+use crate::planning::{Plans, plan_message};
 use crate::write_message::append_message;
-use crate::write_sizes::message_size;
 use carrier_io::{Blob, Failed, PlanEnd, Sink, Writing};
-use cfb_writer::Plan;
 use msg_tree::Tree;
 use prop_names::NameSet;
 use std::alloc::Global;
@@ -14,15 +12,15 @@ use std::alloc::Global;
 /// The most bytes of an output.
 const MOST_BYTES: u64 = 268_435_456;
 
-/// What will be written for a tree. It borrows the tree and its names, and holds no output: for each store it has a
-/// plan, in the order in which they are written.
+/// What will be written for a tree. It borrows the tree and its names, and holds no output: for each message in it and
+/// for each store it has a plan, in the order in which they are written.
 #[derive(Drop)]
 pub struct TnefPlan<'t, B: Blob> {
     tree: &'t Tree<B>,
     names: &'t NameSet,
-    stores: Vec<Plan<'t, B>>,
+    plans: Plans<'t, B>,
     size: u64,
-    ghost planned: { IsPlanned (plain_of tree.now) names.now stores.items size },
+    ghost planned: { IsPlanned (plain_of tree.now) names.now plans.messages.items plans.stores.items size },
 }
 
 impl<'t, B: Blob> TnefPlan<'t, B> {
@@ -49,17 +47,15 @@ impl<'t, B: Blob> TnefPlan<'t, B> {
         ensures fits { IfOk result (λ _. length (tnef_of (plain_of tree.now)) ≤ bytes.MOST_BYTES) }
         ensures end { IfErr result (IsEndOf (plain_of tree.now)) }
     {
-        let mut stores = StorePlans::new(alloc);
-        plan_stores(alloc, tree.top(), &mut stores)?;
-        let size = message_size(tree.top(), &stores.sizes);
+        let mut plans = Plans::new(alloc);
+        let size = plan_message(alloc, tree.top(), &mut plans)?;
         if size > MOST_BYTES {
             return Err(PlanEnd::TooLarge(size));
         }
-        let StorePlans { plans, .. } = stores;
         Ok(TnefPlan {
             tree,
             names,
-            stores: plans,
+            plans,
             size,
         })
     }
@@ -76,7 +72,7 @@ impl<'t, B: Blob> TnefPlan<'t, B> {
     pub fn write<W: Sink>(&self, sink: &mut W) -> Result<(), Failed>
         ensures { Writes (W.held sink.old) (W.held sink.new) (W.faults sink.old) (W.faults sink.new) result (tnef_of (tree_in self.now)) }
     {
-        match append_message(sink, self.names, self.tree.top(), &self.stores) {
+        match append_message(sink, self.names, self.tree.top(), &self.plans.planned()) {
             Ok(_) => Ok(()),
             Err(failed) => Err(failed),
         }

@@ -6,18 +6,17 @@ ghost use Rattle.carrier_model.specs.Tree as plain;
 ghost use Rattle.msg_tree.specs.Meaning.{tree_of, attached_of};
 ghost use Rattle.prop_values.specs.Meaning.{value_of};
 ghost use Rattle.tnef_writer.specs.Carried.{IsCarried, held_bytes, object_value};
-ghost use Rattle.tnef_writer.specs.TreeStores.{files_of, stores_in, stores_at};
+ghost use Rattle.tnef_writer.specs.MessagePlans.{AreOf};
+ghost use Rattle.tnef_writer.specs.TreeStores.{stores_in, stores_at};
 ghost use Rattle.tnef_writer.specs.Written.{own_bytes, attachment_bytes, attached_list, carried_list, Includes};
 ghost use Rattle.tnef_props.specs.Named.{HasNames};
 ghost use Rattle.carrier_io.specs.Summed.{Sums};
 
-use crate::store_counts::own_stores;
+use crate::planned::Planned;
 use crate::write_attributes::append_attribute;
 use crate::write_lists::{ListContent, append_filled};
 use crate::write_objects::{Carried, append_head, append_store};
-use crate::write_sizes::message_size;
 use carrier_io::{Blob, Failed, Sink, append, append_zeros, le16, le32, pad4};
-use cfb_writer::Plan;
 use msg_tree::{Attachment, Body, Message, Recipients};
 use prop_names::{Key, NameSet};
 use prop_values::{Kind, Props, Value};
@@ -164,28 +163,28 @@ fn append_own<B: Blob, W: Sink>(
     Ok(start.wrapping_add(lists))
 }
 
-/// Appends the stream of a message, whose stores are planned, and answers the sum of its bytes.
+/// Appends the stream of a message, of which all is planned, and answers the sum of its bytes.
 #[cycle(writing)]
 pub fn append_message<B: Blob, W: Sink>(
     sink: &mut W,
     names: &NameSet,
     message: &Message<B>,
-    stores: &[Plan<'_, B>],
+    planned: &Planned<'_, '_, B>,
 ) -> Result<u16, Failed>
     requires fits { length (canon.stream_of names.now (tree_of B.bytes message.now)) < 2 ^ 32 }
-    requires stores { stores.now ≡ files_of (stores_in (tree_of B.bytes message.now)) }
+    requires planned { AreOf names.now (plain.messages_in (tree_of B.bytes message.now)) (stores_in (tree_of B.bytes message.now)) planned.now }
     requires known { Includes names.now (plain.names_in (tree_of B.bytes message.now)) }
     requires few { length names.now ≤ 32000 }
     ensures { Sums (W.held sink.old) (W.held sink.new) (W.faults sink.old) (W.faults sink.new) result (canon.stream_of names.now (tree_of B.bytes message.now)) }
 {
     let mut sum = append_own(sink, names, &message.props, &message.recipients)?;
     let attachments = &message.attachments;
-    let mut from = 0;
+    let mut left = planned.below();
     for k in 0..attachments.len() {
         let attachment = attachments.get(k);
-        let own = own_stores(attachment, stores, from);
-        sum = sum.wrapping_add(append_attachment(sink, names, attachment, own)?);
-        from += own.len();
+        let (own, others) = left.split(attachment);
+        sum = sum.wrapping_add(append_attachment(sink, names, attachment, &own)?);
+        left = others;
     }
     Ok(sum)
 }
@@ -196,16 +195,16 @@ fn append_attachment<B: Blob, W: Sink>(
     sink: &mut W,
     names: &NameSet,
     attachment: &Attachment<B>,
-    stores: &[Plan<'_, B>],
+    planned: &Planned<'_, '_, B>,
 ) -> Result<u16, Failed>
     requires fits { length (attachment_bytes names.now (attached_of B.bytes attachment.now)) < 2 ^ 32 }
-    requires stores { stores.now ≡ files_of (stores_at (attached_of B.bytes attachment.now)) }
+    requires planned { AreOf names.now (plain.messages_at (attached_of B.bytes attachment.now)) (stores_at (attached_of B.bytes attachment.now)) planned.now }
     requires known { Includes names.now (plain.names_at (attached_of B.bytes attachment.now)) }
     requires few { length names.now ≤ 32000 }
     ensures { Sums (W.held sink.old) (W.held sink.new) (W.faults sink.old) (W.faults sink.new) result (attachment_bytes names.now (attached_of B.bytes attachment.now)) }
 {
     let rendering = append_rendering(sink, &attachment.props)?;
-    let list = append_attached(sink, names, attachment, stores)?;
+    let list = append_attached(sink, names, attachment, planned)?;
     Ok(rendering.wrapping_add(list))
 }
 
@@ -215,10 +214,10 @@ fn append_attached<B: Blob, W: Sink>(
     sink: &mut W,
     names: &NameSet,
     attachment: &Attachment<B>,
-    stores: &[Plan<'_, B>],
+    planned: &Planned<'_, '_, B>,
 ) -> Result<u16, Failed>
     requires fits { length (attached_list names.now (attached_of B.bytes attachment.now)) < 2 ^ 32 }
-    requires stores { stores.now ≡ files_of (stores_at (attached_of B.bytes attachment.now)) }
+    requires planned { AreOf names.now (plain.messages_at (attached_of B.bytes attachment.now)) (stores_at (attached_of B.bytes attachment.now)) planned.now }
     requires known { Includes names.now (plain.names_at (attached_of B.bytes attachment.now)) }
     requires few { length names.now ≤ 32000 }
     ensures { Sums (W.held sink.old) (W.held sink.new) (W.faults sink.old) (W.faults sink.new) result (canon.attribute 2 plain_ids.ATTACHMENT (attached_list names.now (attached_of B.bytes attachment.now))) }
@@ -227,15 +226,16 @@ fn append_attached<B: Blob, W: Sink>(
     match &attachment.body {
         Body::Plain => append_filled(sink, names, 2, ids::ATTACHMENT, &ListContent::ListOf(props)),
         Body::Message(inner) => {
-            let size = message_size(inner, stores);
             let message = Carried::Message {
                 message: inner,
-                size,
-                stores,
+                size: planned.messages[0].size,
+                planned: &*planned,
             };
             append_carrying(sink, names, props, &message)
         }
-        Body::Store(_) => append_carrying(sink, names, props, &Carried::Store(&stores[0])),
+        Body::Store(_) => {
+            append_carrying(sink, names, props, &Carried::Store(&planned.stores[0]))
+        }
     }
 }
 
@@ -245,7 +245,7 @@ fn append_carrying<B: Blob, W: Sink>(
     sink: &mut W,
     names: &NameSet,
     props: &Props<B>,
-    carried: &Carried<'_, '_, B>,
+    carried: &Carried<'_, '_, '_, B>,
 ) -> Result<u16, Failed>
     requires fits { length (carried_list names.now props.now (object_value B.bytes names.now carried.now)) < 2 ^ 32 }
     requires own { HasNames names.now props.now }
@@ -266,7 +266,7 @@ fn append_split<B: Blob, W: Sink>(
     sink: &mut W,
     names: &NameSet,
     props: &Props<B>,
-    carried: &Carried<'_, '_, B>,
+    carried: &Carried<'_, '_, '_, B>,
 ) -> Result<u16, Failed>
     requires fits { length (carried_list names.now props.now (object_value B.bytes names.now carried.now)) < 2 ^ 32 }
     requires own { HasNames names.now props.now }
@@ -287,7 +287,7 @@ fn append_split<B: Blob, W: Sink>(
 fn append_object<B: Blob, W: Sink>(
     sink: &mut W,
     names: &NameSet,
-    carried: &Carried<'_, '_, B>,
+    carried: &Carried<'_, '_, '_, B>,
 ) -> Result<u16, Failed>
     requires fits { length (object_value B.bytes names.now carried.now) < 2 ^ 32 }
     requires carried { IsCarried B.bytes names.now carried.now }
@@ -306,7 +306,7 @@ fn append_object<B: Blob, W: Sink>(
 fn append_held<B: Blob, W: Sink>(
     sink: &mut W,
     names: &NameSet,
-    carried: &Carried<'_, '_, B>,
+    carried: &Carried<'_, '_, '_, B>,
 ) -> Result<u16, Failed>
     requires fits { length (held_bytes B.bytes names.now carried.now) < 2 ^ 32 }
     requires carried { IsCarried B.bytes names.now carried.now }
@@ -316,9 +316,9 @@ fn append_held<B: Blob, W: Sink>(
     match carried {
         Carried::Message {
             message,
-            stores,
+            planned,
             ..
-        } => append_message(sink, names, message, stores),
+        } => append_message(sink, names, message, planned),
         Carried::Store(plan) => append_store(sink, plan),
     }
 }

@@ -5,6 +5,7 @@ ghost use Rattle.carrier_model.specs.Totals.{capped};
 ghost use Rattle.tnef_writer.specs.Carried.{IsCarried, interface_of, object_head, object_value};
 ghost use Rattle.carrier_io.specs.Summed.{Sums};
 
+use crate::planned::Planned;
 use carrier_io::{Blob, Failed, Sink, append, le32};
 use cfb_writer::Plan;
 use msg_tree::Message;
@@ -22,18 +23,18 @@ const INTERFACE: u64 = 16;
 
 /// What the Object of an attachment holds.
 #[derive(Drop)]
-pub enum Carried<'a, 't, B: Blob> {
-    /// A message, the bytes of its stream, and the plans of its stores.
+pub enum Carried<'a, 'p, 't, B: Blob> {
+    /// A message, the bytes of its stream, and what is planned of it and in it.
     Message {
         message: &'a Message<B>,
         size: u64,
-        stores: &'a [Plan<'t, B>],
+        planned: &'a Planned<'p, 't, B>,
     },
     /// The compound file of a store.
     Store(&'a Plan<'t, B>),
 }
 
-impl<B: Blob> Carried<'_, '_, B> {
+impl<B: Blob> Carried<'_, '_, '_, B> {
     /// The bytes of the Object's value. A number that is above the greatest `u64` stays there.
     pub fn size(&self) -> u64
         ensures { (names : List Name) → IsCarried B.bytes names self.now → result ≡ capped (length (object_value B.bytes names self.now)) }
@@ -66,7 +67,7 @@ pub fn append_store<B: Blob, W: Sink>(sink: &mut W, plan: &Plan<'_, B>) -> Resul
 /// one, the size and the id.
 pub fn append_head<B: Blob, W: Sink>(
     sink: &mut W,
-    carried: &Carried<'_, '_, B>,
+    carried: &Carried<'_, '_, '_, B>,
     size: u32,
 ) -> Result<u16, Failed>
     ensures { Sums (W.held sink.old) (W.held sink.new) (W.faults sink.old) (W.faults sink.new) result (object_head size (interface_of carried.now)) }

@@ -1,4 +1,4 @@
-use Rattle.std.proofs.Common.{◌≡◌, ◌<◌, ◌++◌, [], ℕ, List, Some, Result, Err, length, take, take_all, not, refl, sym, ap, subst, ◌∙◌, length-append, arith}
+use Rattle.std.proofs.Common.{◌≡◌, ◌<◌, ◌+◌, ◌++◌, [], ℕ, List, Some, Result, Err, length, take, drop, get_or, take_all, not, refl, sym, ap, subst, ◌∙◌, length-append, arith}
 use Rattle.std.specs.Prelude.{replicate, filter}
 use Rattle.std.specs.List.{flat_map}
 use Rattle.std.proofs.lemmas.List.{append-nil}
@@ -21,12 +21,15 @@ use Rattle.tnef_props.proofs.Lengths.{list_length}
 use Rattle.carrier_io.proofs.Summed.{sums_both, sums_first, sums_second}
 use Rattle.tnef_props.proofs.WrittenValues.{padding}
 use Rattle.tnef_writer.specs.Carried.{held_bytes, interface_of, object_head, object_value, IsPlannedAs}
-use Rattle.tnef_writer.specs.TreeStores.{stores_in, stores_in_body, files_of}
+use Rattle.tnef_writer.specs.MessagePlans.{plans_of}
+use Rattle.tnef_writer.specs.TreeStores.{stores_at, files_of}
+use Rattle.tnef_writer.specs.declared.planned.MessagePlan.{MessagePlan}
 use Rattle.tnef_writer.specs.Written.{own_bytes, attachment_bytes, attached_list, carried_list, Includes}
 use Rattle.tnef_writer.proofs.BodyVariants.{plain_body, message_body, store_body}
 use Rattle.tnef_writer.proofs.NamesOfTree.{includes_left, includes_right, has_names, all_have_names, includes_at}
-use Rattle.tnef_writer.proofs.StoreLists.{stores_out, files_enough, files_count, files_own, files_others, file_one, sizes_told}
+use Rattle.tnef_writer.proofs.SplitPlans.{some_plan, first_plan, plans_from, message_plans, one_file, file_one}
 use Rattle.tnef_writer.proofs.StreamParts.{one_shorter, props_few, before, behind, stored_list}
+use Rattle.tnef_writer.proofs.TreeLists.{messages_split, stores_split}
 use Rattle.tnef_writer.proofs.WrittenStreams.{behind_more, behind_stops, object_parts, sums_as, message_whole}
 use Rattle.tnef_writer.proofs.write_message.+writing.Goals as goal
 
@@ -62,6 +65,7 @@ append_message-returns-in_err-sum g t c =
 pub append_message-loop-k-init : goal.append_message-loop-k-init
 append_message-loop-k-init g t c =
     let m = out-Message g.row.B.Denot c.args.message.now in
+    let xs = list_of g.B.Blob.bytes m.attachments in
     let names = c.args.names.now in
     let own = own_bytes names m.props m.recipients in
     let tree = tree_of g.B.Blob.bytes c.args.message.now in
@@ -69,14 +73,21 @@ append_message-loop-k-init g t c =
     let same : own ≡ told = ap (λ (u : plain.Message). own_bytes names (plain.props_of u) (plain.recipients_of u)) (sym (tree_out g.B.Blob.bytes c.args.message.now)) in
     record {
       sums = sums_as own (told ++ []) (same ∙ sym (append-nil told)) c.in_ok-sum.ensures;
-      within = omega arith;
-      left = c.requires.stores ∙ ap files_of (stores_out g.B.Blob.bytes c.args.message.now);
+      left = c.below-left.ensures names tree (flat_map plain.messages_at xs) (flat_map stores_at xs) (record {
+        plans_are = c.requires.planned.plans_are ∙ ap (plans_of names) (messages_split g.B.Blob.bytes c.args.message.now);
+        files_are = c.requires.planned.files_are ∙ ap files_of (stores_split g.B.Blob.bytes c.args.message.now);
+      });
     }
 
-pub append_message-own_stores-own-requires : goal.append_message-own_stores-own-requires
-append_message-own_stores-own-requires g t c =
+pub append_message-below-left-requires : goal.append_message-below-left-requires
+append_message-below-left-requires g t c = some_plan c.args.names.now (tree_of g.B.Blob.bytes c.args.message.now) c.args.planned.now.messages.now c.requires.planned.plans_are
+
+pub append_message-split-requires : goal.append_message-split-requires
+append_message-split-requires g t c =
+    let names = c.args.names.now in
     let xs = list_of g.B.Blob.bytes (out-Message g.row.B.Denot c.args.message.now).attachments in
-    files_enough c.args.stores.now c.loop-k.from xs c.loop-k.k _ c.get-attachment.ensures c.loop-k.invariant.left c.loop-k.invariant.within
+    let rest = plans_from names xs c.loop-k.k _ c.loop-k.left.messages.now c.loop-k.left.stores.now c.get-attachment.ensures c.loop-k.invariant.left in
+    (names, flat_map plain.messages_at (drop (c.loop-k.k + 1) xs), flat_map stores_at (drop (c.loop-k.k + 1) xs), rest)
 
 pub append_message-append_attachment-requires : goal.append_message-append_attachment-requires
 append_message-append_attachment-requires g t c κs within =
@@ -95,7 +106,8 @@ append_message-append_attachment-requires g t c κs within =
     let attachment = attached_of g.B.Blob.bytes c.get-attachment.result.now in
     let fits : length (attachment_bytes names attachment) < 4294967296 = omega (arith, c.requires.fits, whole, one, both) in
     let known : Includes names (plain.names_at attachment) = includes_at names xs c.loop-k.k _ c.get-attachment.ensures (includes_right names (own ++ theirs) below (subst (Includes names) (names_out g.B.Blob.bytes c.args.message.now) c.requires.known)) in
-    let own = files_own c.args.stores.now c.loop-k.from xs c.loop-k.k attachment c.get-attachment.ensures c.loop-k.invariant.left c.loop-k.invariant.within c.own_stores-own.result.now c.own_stores-own.ensures in
+    let rest = plans_from names xs c.loop-k.k attachment c.loop-k.left.messages.now c.loop-k.left.stores.now c.get-attachment.ensures c.loop-k.invariant.left in
+    let own = c.split.ensures.own names (flat_map plain.messages_at (drop (c.loop-k.k + 1) xs)) (flat_map stores_at (drop (c.loop-k.k + 1) xs)) rest in
     (omega (arith, e, le), (within.0, (within.1, (fits, (own, (known, c.requires.few))))))
 
 pub append_message-returns-in_err-sum-2 : goal.append_message-returns-in_err-sum-2
@@ -108,25 +120,16 @@ append_message-returns-in_err-sum-2 g t c =
     sums_as (own ++ flat_map (attachment_bytes names) xs) (stream_of names tree) (sym (message_whole g.B.Blob.bytes names c.args.message.now))
     (behind_stops own (attachment_bytes names) xs c.loop-k.k _ c.get-attachment.ensures c.from_residual-in_err-sum-2.ensures.0 c.loop-k.invariant.sums c.in_err-sum-2.ensures)
 
-pub append_message-overflow_add-from : goal.append_message-overflow_add-from
-append_message-overflow_add-from g t c =
-    let xs = list_of g.B.Blob.bytes (out-Message g.row.B.Denot c.args.message.now).attachments in
-    let enough = files_enough c.args.stores.now c.loop-k.from xs c.loop-k.k _ c.get-attachment.ensures c.loop-k.invariant.left c.loop-k.invariant.within in
-    let count = files_count c.args.stores.now c.loop-k.from xs c.loop-k.k _ c.get-attachment.ensures c.loop-k.invariant.left c.loop-k.invariant.within c.own_stores-own.result.now c.own_stores-own.ensures in
-    omega (arith, enough, count, c.well_formed)
-
 pub append_message-loop-k-preserved : goal.append_message-loop-k-preserved
 append_message-loop-k-preserved g t c =
     let m = out-Message g.row.B.Denot c.args.message.now in
     let names = c.args.names.now in
     let xs = list_of g.B.Blob.bytes m.attachments in
     let tree = tree_of g.B.Blob.bytes c.args.message.now in
-    let enough = files_enough c.args.stores.now c.loop-k.from xs c.loop-k.k _ c.get-attachment.ensures c.loop-k.invariant.left c.loop-k.invariant.within in
-    let count = files_count c.args.stores.now c.loop-k.from xs c.loop-k.k _ c.get-attachment.ensures c.loop-k.invariant.left c.loop-k.invariant.within c.own_stores-own.result.now c.own_stores-own.ensures in
+    let rest = plans_from names xs c.loop-k.k _ c.loop-k.left.messages.now c.loop-k.left.stores.now c.get-attachment.ensures c.loop-k.invariant.left in
     record {
       sums = behind_more (own_bytes names (plain.props_of tree) (plain.recipients_of tree)) (attachment_bytes names) xs c.loop-k.k _ _ c.get-attachment.ensures refl c.loop-k.invariant.sums c.in_ok-sum-2.ensures;
-      within = omega (arith, enough, count);
-      left = files_others c.args.stores.now c.loop-k.from xs c.loop-k.k _ c.get-attachment.ensures c.loop-k.invariant.left c.loop-k.invariant.within c.own_stores-own.result.now c.own_stores-own.ensures;
+      left = c.split.ensures.others names (flat_map plain.messages_at (drop (c.loop-k.k + 1) xs)) (flat_map stores_at (drop (c.loop-k.k + 1) xs)) rest;
     }
 
 pub append_message-returns : goal.append_message-returns
@@ -159,6 +162,10 @@ append_attachment-returns g t c =
     let p = ap rendering_attribute (sym (attached_props g.B.Blob.bytes c.args.attachment.now)) in
     sums_both {x = rendering_attribute x.0} {y = attribute 2 ATTACHMENT (attached_list c.args.names.now x)} _ refl (sums_as _ (rendering_attribute x.0) p c.in_ok-rendering.ensures) c.in_ok-list.ensures
 
+-- what a list answers at a place that it has not
+abbrev unknown : MessagePlan
+unknown = record { size = 0; messages = 0; stores = 0 }
+
 pub append_attached-append_filled-requires-clause-known : goal.append_attached-append_filled-requires-clause-known
 append_attached-append_filled-requires-clause-known g t c =
     let names = c.args.names.now in
@@ -167,10 +174,13 @@ append_attached-append_filled-requires-clause-known g t c =
     let x = attached_of g.B.Blob.bytes c.args.attachment.now in
     subst (HasNames names) p (has_names names x.0 (includes_left names (plain.names_in_props x.0) (plain.names_in_body x.1) c.requires.known))
 
-pub append_attached-message_size-size-requires : goal.append_attached-message_size-size-requires
-append_attached-message_size-size-requires g t c =
+pub append_attached-bounds-planned-0 : goal.append_attached-bounds-planned-0
+append_attached-bounds-planned-0 g t c =
+    let names = c.args.names.now in
+    let inner = tree_of g.B.Blob.bytes c.in-Message.inner.value in
     let e = message_body g.B.Blob.bytes c.args.attachment.now c.in-Message.inner c.in-Message.is in
-    rw c.deref.ensures (sizes_told c.args.stores.now (stores_in (tree_of g.B.Blob.bytes c.in-Message.inner.value)) (c.requires.stores ∙ ap (λ b. files_of (stores_in_body b)) e))
+    let own = message_plans names (attached_of g.B.Blob.bytes c.args.attachment.now) inner _ _ e c.requires.planned in
+    some_plan names inner c.args.planned.now.messages.now own.plans_are
 
 pub append_attached-append_carrying-requires : goal.append_attached-append_carrying-requires
 append_attached-append_carrying-requires g t c κs within =
@@ -183,12 +193,19 @@ append_attached-append_carrying-requires g t c κs within =
     let list : attached_list names x ≡ carried_list names props (IID_MESSAGE ++ stream_of names inner) = λ i. list_bytes names (p i) (content_of names (e i)) in
     let fits : length (carried_list names props (IID_MESSAGE ++ stream_of names inner)) < 4294967296 = omega (arith, c.requires.fits, ap length list) in
     let own = subst (HasNames names) p (has_names names x.0 (includes_left names (plain.names_in_props x.0) (plain.names_in_body x.1) c.requires.known)) in
-    let carried : IsPlannedAs names inner c.message_size-size.result c.args.stores.now = record {
-      size_is = rw c.deref.ensures at (c.message_size-size.ensures names);
-      stores_are = c.requires.stores ∙ ap (λ b. files_of (stores_in_body b)) e;
+    let plans = message_plans names x inner c.args.planned.now.messages.now c.args.planned.now.stores.now e c.requires.planned in
+    let plan = get_or c.args.planned.now.messages.now 0 unknown in
+    let carried : IsPlannedAs names inner plan.size c.args.planned.now = record {
+      size_is = ap (λ (q : MessagePlan). q.size) (first_plan names inner c.args.planned.now.messages.now unknown plans.plans_are);
+      plans_are = plans;
       known = subst (λ b. Includes names (plain.names_in_body b)) e (includes_right names (plain.names_in_props x.0) (plain.names_in_body x.1) c.requires.known);
     } in
-    rw c.deref-in-Message.ensures (omega (arith, ap plain.depth_of_body e), (within.0, (within.1, (fits, (own, (carried, c.requires.few))))))
+    rw c.deref.ensures (omega (arith, ap plain.depth_of_body e), (within.0, (within.1, (fits, (own, (carried, c.requires.few))))))
+
+pub append_attached-bounds-planned-0-in-Store : goal.append_attached-bounds-planned-0-in-Store
+append_attached-bounds-planned-0-in-Store g t c =
+    let x = attached_of g.B.Blob.bytes c.args.attachment.now in
+    one_file c.args.names.now x (store_of g.B.Blob.bytes c.in-Store.field-0) c.args.planned.now.messages.now c.args.planned.now.stores.now (store_body g.B.Blob.bytes c.args.attachment.now c.in-Store.field-0 c.in-Store.is) c.requires.planned
 
 pub append_attached-append_carrying-requires-in-Store : goal.append_attached-append_carrying-requires-in-Store
 append_attached-append_carrying-requires-in-Store g t c κs within =
@@ -198,9 +215,10 @@ append_attached-append_carrying-requires-in-Store g t c κs within =
     let s = store_of g.B.Blob.bytes c.in-Store.field-0 in
     let p = attached_props g.B.Blob.bytes c.args.attachment.now in
     let e = store_body g.B.Blob.bytes c.args.attachment.now c.in-Store.field-0 c.in-Store.is in
-    let file = file_one c.args.stores.now x s c.requires.stores e c.index-stores-0.result c.index-stores-0.is in
-    let list : attached_list names x ≡ carried_list names props (IID_STORAGE ++ c.index-stores-0.result) = stored_list names x props s c.index-stores-0.result p e file in
-    let fits : length (carried_list names props (IID_STORAGE ++ c.index-stores-0.result)) < 4294967296 = omega (arith, c.requires.fits, ap length list) in
+    let file = get_or c.args.planned.now.stores.now 0 c.index-planned-0.result in
+    let is = file_one names x s c.args.planned.now.messages.now c.args.planned.now.stores.now e c.requires.planned c.index-planned-0.result in
+    let list : attached_list names x ≡ carried_list names props (IID_STORAGE ++ file) = stored_list names x props s file p e is in
+    let fits : length (carried_list names props (IID_STORAGE ++ file)) < 4294967296 = omega (arith, c.requires.fits, ap length list) in
     let own = subst (HasNames names) p (has_names names x.0 (includes_left names (plain.names_in_props x.0) (plain.names_in_body x.1) c.requires.known)) in
     (omega arith, (within.0, (within.1, (fits, (own, (tt, c.requires.few))))))
 
@@ -216,7 +234,7 @@ append_attached-returns-in-Message g t c =
     let names = c.args.names.now in
     let p = attached_props g.B.Blob.bytes c.args.attachment.now in
     let e = message_body g.B.Blob.bytes c.args.attachment.now c.in-Message.inner c.in-Message.is in
-    sums_as _ _ (sym (λ i. attribute 2 ATTACHMENT (list_bytes names (p i) (content_of names (e i))))) (rw c.deref-in-Message.ensures at c.append_carrying.ensures)
+    sums_as _ _ (sym (λ i. attribute 2 ATTACHMENT (list_bytes names (p i) (content_of names (e i))))) (rw c.deref.ensures at c.append_carrying.ensures)
 
 pub append_attached-returns-in-Store : goal.append_attached-returns-in-Store
 append_attached-returns-in-Store g t c =
@@ -225,8 +243,9 @@ append_attached-returns-in-Store g t c =
     let props = (out-Attachment g.row.B.Denot c.args.attachment.now).props in
     let s = store_of g.B.Blob.bytes c.in-Store.field-0 in
     let e = store_body g.B.Blob.bytes c.args.attachment.now c.in-Store.field-0 c.in-Store.is in
-    let file = file_one c.args.stores.now x s c.requires.stores e c.index-stores-0.result c.index-stores-0.is in
-    let list = stored_list names x props s c.index-stores-0.result (attached_props g.B.Blob.bytes c.args.attachment.now) e file in
+    let file = get_or c.args.planned.now.stores.now 0 c.index-planned-0.result in
+    let is = file_one names x s c.args.planned.now.messages.now c.args.planned.now.stores.now e c.requires.planned c.index-planned-0.result in
+    let list = stored_list names x props s file (attached_props g.B.Blob.bytes c.args.attachment.now) e is in
     sums_as _ _ (ap (attribute 2 ATTACHMENT) (sym list)) c.append_carrying-in-Store.ensures
 
 -- ---- the attribute of an attachment with an Object

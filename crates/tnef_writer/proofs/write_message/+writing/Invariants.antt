@@ -1,10 +1,11 @@
-use Rattle.std.proofs.Common.{◌≡◌, ◌≤◌, ◌+◌, ◌*◌, ◌++◌, Ok, length, take, drop}
+use Rattle.std.proofs.Common.{◌+◌, ◌*◌, ◌++◌, Ok, take, drop}
 use Rattle.std.specs.List.{flat_map}
 use Rattle.carrier_io.specs.declared.failures.Failed.{Failed}
 use Rattle.carrier_model.specs.Tree as plain
 use Rattle.msg_tree.specs.Meaning.{tree_of, list_of, attached_of}
 use Rattle.tnef_writer.specs.Carried.{levels_of}
-use Rattle.tnef_writer.specs.TreeStores.{stores_at, files_of}
+use Rattle.tnef_writer.specs.MessagePlans.{AreOf}
+use Rattle.tnef_writer.specs.TreeStores.{stores_at}
 use Rattle.tnef_writer.specs.Written.{own_bytes, attachment_bytes}
 use Rattle.carrier_io.specs.Summed.{Sums}
 use Rattle.tnef_writer.proofs.write_message.+writing.Given as goal
@@ -33,6 +34,5 @@ decreases-append_held g l = 8 * levels_of g.B.Blob.bytes l.carried.now + 1
 abbrev pub invariant-append_message-loop-k : goal.invariant-append_message-loop-k
 invariant-append_message-loop-k g l = record {
   sums : Sums {E = Failed} (g.W.Sink.held l.fn.sink) (g.W.Sink.held l.sink) (g.W.Sink.faults l.fn.sink) (g.W.Sink.faults l.sink) (Ok l.sum) (own_bytes l.names (plain.props_of (tree_of g.B.Blob.bytes l.message)) (plain.recipients_of (tree_of g.B.Blob.bytes l.message)) ++ flat_map (attachment_bytes l.names) (take l.k (list_of g.B.Blob.bytes l.attachments)));
-  within : l.from ≤ length l.stores;
-  left : drop l.from l.stores ≡ files_of (flat_map stores_at (drop l.k (list_of g.B.Blob.bytes l.attachments)));
+  left : AreOf l.names (flat_map plain.messages_at (drop l.k (list_of g.B.Blob.bytes l.attachments))) (flat_map stores_at (drop l.k (list_of g.B.Blob.bytes l.attachments))) l.left;
 }
