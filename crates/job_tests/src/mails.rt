@@ -51,7 +51,7 @@ fn unwraps(rt: HostRuntime) -> Result<(), Fail> {
         // A boundary of 70 characters.
         b"Content-Type: multipart/mixed; boundary=xxxxxxxxxxxxxxxxxxxxxxxxxxxxxxxxxxxxxxxxxxxxxxxxxxxxxxxxxxxxxxxxxxxxxx\n\n--xxxxxxxxxxxxxxxxxxxxxxxxxxxxxxxxxxxxxxxxxxxxxxxxxxxxxxxxxxxxxxxxxxxxxx\nContent-Type: application/ms-tnef\nContent-Transfer-Encoding: base64\n\neJ8+IgEA\n--xxxxxxxxxxxxxxxxxxxxxxxxxxxxxxxxxxxxxxxxxxxxxxxxxxxxxxxxxxxxxxxxxxxxxx--",
         // The text of a delimiter line and of a closing line within lines.
-        b"Content-Type: multipart/mixed; boundary=b\n\nx--b\nContent-Type: application/ms-tnef\nContent-Transfer-Encoding: base64\n\nAAAA\n--b\nContent-Type: text/plain\n\nx --b--\n--b\nContent-Type: application/ms-tnef\nContent-Transfer-Encoding: base64\n\neJ8+IgEA\n--b--\n",
+        b"Content-Type: multipart/mixed; boundary=b\n\ntext\nx--b\nContent-Type: application/ms-tnef\nContent-Transfer-Encoding: base64\n\nAAAA\n--b\nContent-Type: text/plain\n\nx --b--\n--b\nContent-Type: application/ms-tnef\nContent-Transfer-Encoding: base64\n\neJ8+IgEA\n--b--\n",
         // A boundary of 40 characters, and lines that are its delimiter line and its closing line for 31 bytes.
         b"Content-Type: multipart/mixed; boundary=aaaaaaaaaaaaaaaaaaaaaaaaaaaaabbbbbbbbbbb\n\n--aaaaaaaaaaaaaaaaaaaaaaaaaaaaaccccccccccc\nContent-Type: application/ms-tnef\nContent-Transfer-Encoding: base64\n\nAAAA\n--aaaaaaaaaaaaaaaaaaaaaaaaaaaaaccccccccccc--\n--aaaaaaaaaaaaaaaaaaaaaaaaaaaaabbbbbbbbbbb\nContent-Type: application/ms-tnef\nContent-Transfer-Encoding: base64\n\neJ8+IgEA\n--aaaaaaaaaaaaaaaaaaaaaaaaaaaaabbbbbbbbbbb--\n",
         // The first of two TNEF parts.

@@ -1,5 +1,5 @@
 -- A search's steps, and what the types mean.
-use Rattle.std.specs.Prelude.{◌≡◌, ◌⊎◌, ℕ, ◌+◌, ◌%◌, drop, Bool, true, false, not, if◌then◌else◌, ◌==◌, ◌&&◌, List, [], ◌∷◌, ◌++◌, length, take, codes, nat_eq, Vec, Option, Some, None, Result, Ok, Err}
+use Rattle.std.specs.Prelude.{◌≡◌, ◌⊎◌, ℕ, ◌+◌, ◌%◌, Bool, true, false, not, if◌then◌else◌, ◌==◌, ◌&&◌, List, [], ◌∷◌, ◌++◌, length, take, drop, codes, nat_eq, Vec, Option, Some, None, Result, Ok, Err}
 use Rattle.std.specs.Global.{Global}
 use Rattle.std.specs.List.{starts_with}
 use Rattle.carrier_model.specs.Bytes.{AllBytes}
@@ -45,7 +45,7 @@ later_line front (c ∷ rest) = if c == 10 && starts_with nat_eq rest front then
 abbrev pub line_from : List ℕ → List ℕ → List ℕ
 line_from front bytes = if starts_with nat_eq bytes front then bytes else later_line front bytes
 
--- no part of a multipart begins in the first n bytes of these lines, and none ends there the multipart
+-- no part of a multipart begins in the first n bytes of these lines, nor does it end there
 abbrev pub NoPartBefore : List ℕ → ℕ → List ℕ → Type 0
 NoPartBefore b n bytes = (at : ℕ) → parts b at (lines bytes) ≡ parts b (at + n) (lines (drop n bytes))
 

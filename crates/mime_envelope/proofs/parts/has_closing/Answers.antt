@@ -1,5 +1,5 @@
 use Rattle.std.proofs.Common.{sym, ◌∙◌}
-use Rattle.mail_model.proofs.Entities.{any_closing-none, any_closing-here, any_closing-later}
+use Rattle.mail_model.proofs.Entities.{any_closing-none, any_closing-later}
 use Rattle.mime_envelope.proofs.Coded.{none_left}
 use Rattle.mime_envelope.proofs.Cuts.{passed_next, passed_closing}
 use Rattle.mime_envelope.proofs.parts.has_closing.Goals as goal

@@ -1,8 +1,8 @@
-use Rattle.std.proofs.Common.{◌+◌, ◌-◌, Bool, length, Option, Ok, sym, ap, ◌∙◌, arith}
+use Rattle.std.proofs.Common.{◌+◌, ◌-◌, length, Option, Ok, sym, ap, ◌∙◌, arith}
 use Rattle.std.proofs.lemmas.Result.{err_from_is_err_and}
 use Rattle.mail_model.specs.Lines.{lines}
 use Rattle.mail_model.specs.Entities.{is_tnef, is_multipart, boundary, parts}
-use Rattle.mail_model.specs.Envelope.{or_else, first_of, search}
+use Rattle.mail_model.specs.Envelope.{first_of, search}
 use Rattle.mime_envelope.specs.Views.{field_view}
 use Rattle.mime_envelope.specs.Parts.{found_view}
 use Rattle.mime_envelope.proofs.Coded.{none_left}
