@@ -1,4 +1,3 @@
-mod Beside
 mod Cuts
 mod EditSteps
 mod KeyWords

@@ -1,5 +1,5 @@
 -- The message to which an edit leads, and what the edit changes in it.
-use Rattle.std.specs.Prelude.{◌≡◌, ℕ, List}
+use Rattle.std.specs.Prelude.{ℕ, List}
 use Rattle.edit_model.specs.Edits.{Edit, set_prop, remove_prop, add_recipient, drop_recipient, drop_attachment, Spot}
 use Rattle.edit_words.specs.declared.edits.Part as declared
 use Rattle.edit_words.specs.declared.edits.Part.TheVariants as one
@@ -30,7 +30,3 @@ part_of (remove_prop place key kind) = properties place.spot
 part_of (add_recipient path) = recipients
 part_of (drop_recipient path k) = recipients
 part_of (drop_attachment path k) = attachments
-
--- two edits change the same part of the same message
-abbrev pub AreBeside : Edit → Edit → Type 0
-AreBeside e f = (path_of e ≡ path_of f) × (part_of e ≡ part_of f)

@@ -3,8 +3,6 @@ use Rattle.std.specs.Prelude.{◌≡◌, List, ℕ, Option, Some, None, codes, b
 use Rattle.edit_model.specs.Edits.{Edit, drop_recipient, drop_attachment}
 use Rattle.edit_words.specs.declared.verbs.Verb.{Verb}
 use Rattle.edit_words.specs.declared.verbs.Verb.TheVariants as verbs
-use Rattle.edit_words.specs.declared.verbs.Changed.{Changed}
-use Rattle.edit_words.specs.declared.verbs.Changed.TheVariants as what
 
 abbrev pub word_of : Verb → List ℕ
 word_of verbs.Set = codes "set"
@@ -12,22 +10,6 @@ word_of verbs.Remove = codes "remove"
 word_of verbs.AddRecipient = codes "add-recipient"
 word_of verbs.DropRecipient = codes "drop-recipient"
 word_of verbs.DropAttachment = codes "drop-attachment"
-
--- what an edit of a verb changes
-abbrev pub changed_by : Verb → Changed
-changed_by verbs.Set = what.Props
-changed_by verbs.Remove = what.Props
-changed_by verbs.AddRecipient = what.Recipients
-changed_by verbs.DropRecipient = what.Recipients
-changed_by verbs.DropAttachment = what.Attachments
-
--- two words are verbs whose edits change the same
-pub record AreAlike (word other : List ℕ) : Type 0 where
-  pub one : Verb
-  pub two : Verb
-  pub is_one : word ≡ word_of one
-  pub is_two : other ≡ word_of two
-  pub same : changed_by one ≡ changed_by two
 
 -- a word that is none of these
 pub record IsNoVerb (word : List ℕ) : Type 0 where

@@ -10,6 +10,6 @@ mod scripts;
 mod values;
 mod verbs;
 
-pub use edit_list::{EditRun, Edits};
+pub use edit_list::Edits;
 pub use edits::{Edit, Part, Place, Spot};
 pub use scripts::read_edits;

@@ -1,13 +1,11 @@
 //! The words that are edits.
-ghost use Rattle.std.specs.Prelude.{◌≡◌, ◌≤◌, ◌<◌, ◌+◌, IfOk, IsTrue, Some, codes, drop, length, take};
+ghost use Rattle.std.specs.Prelude.{◌≡◌, ◌≤◌, ◌<◌, ◌+◌, IfOk, codes, drop, length, take};
 ghost use Rattle.std.specs.List.{AllByRecursion};
 ghost use Rattle.std.specs.Option.{option_map};
 ghost use Rattle.edit_words.specs.Reading.{IsShort};
 ghost use Rattle.edit_model.specs.EditWords as plain;
-ghost use Rattle.edit_model.specs.Edits.{Edit as PlainEdit};
 ghost use Rattle.edit_model.specs.EditWords.{MOST_WORD_BYTES, set_of, remove_of, drop_of, words_behind};
 ghost use Rattle.edit_words.specs.Meaning.{edit_of, said_at, texts};
-ghost use Rattle.edit_words.specs.Parts.{AreBeside};
 ghost use Rattle.edit_words.specs.Verbs.{word_of, recipient_dropped, attachment_dropped};
 
 use crate::decimals::read_place_number;
@@ -16,7 +14,7 @@ use crate::edits::Edit;
 use crate::keys::{read_key, read_kind};
 use crate::places::{read_message, read_place};
 use crate::values::read_value;
-use crate::verbs::{Verb, are_alike, verb_of};
+use crate::verbs::{Verb, verb_of};
 use carrier_io::{NoMemory, Numbers};
 use prop_values::Prop;
 use std::alloc::Global;
@@ -140,15 +138,6 @@ pub(crate) fn read_at(alloc: Global, words: &[String], at: usize) -> Result<Opti
         Some(verb) => read_edit(alloc, verb, own_words(words, at, verb)),
         None => Ok(None),
     }
-}
-
-/// Whether the edits that begin at two words are seen to change the same part of the same message.
-pub(crate) fn are_beside(words: &[String], one: usize, other: usize) -> bool
-    requires { (one + 1 < length words.now) × (other + 1 < length words.now) }
-    ensures { IsTrue result → (e f : PlainEdit) → said_at (texts words.now) one ≡ Some e → said_at (texts words.now) other ≡ Some f → AreBeside e f }
-{
-    are_alike(words[one].as_str(), words[other].as_str())
-        && words[one + 1].as_str() == words[other + 1].as_str()
 }
 
 /// Whether no word is longer than a word may be.

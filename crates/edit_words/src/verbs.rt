@@ -1,7 +1,7 @@
 //! The first words of edits.
-ghost use Rattle.std.specs.Prelude.{◌≡◌, ◌≤◌, IsTrue};
+ghost use Rattle.std.specs.Prelude.{◌≡◌, ◌≤◌};
 ghost use Rattle.edit_model.specs.EditWords as plain;
-ghost use Rattle.edit_words.specs.Verbs.{word_of, changed_by, AreAlike, IsVerbOf};
+ghost use Rattle.edit_words.specs.Verbs.{word_of, IsVerbOf};
 
 /// What an edit does, as its first word says it.
 #[derive(Clone, Copy)]
@@ -11,14 +11,6 @@ pub(crate) enum Verb {
     AddRecipient,
     DropRecipient,
     DropAttachment,
-}
-
-/// What an edit changes at its place.
-#[derive(Clone, Copy, PartialEq, Eq)]
-pub(crate) enum Changed {
-    Props,
-    Recipients,
-    Attachments,
 }
 
 impl Verb {
@@ -33,19 +25,6 @@ impl Verb {
             Verb::AddRecipient => 1,
             Verb::DropRecipient => 2,
             Verb::DropAttachment => 2,
-        }
-    }
-
-    /// What its edits change.
-    fn changed(self) -> Changed
-        ensures { result ≡ changed_by self }
-    {
-        match self {
-            Verb::Set => Changed::Props,
-            Verb::Remove => Changed::Props,
-            Verb::AddRecipient => Changed::Recipients,
-            Verb::DropRecipient => Changed::Recipients,
-            Verb::DropAttachment => Changed::Attachments,
         }
     }
 }
@@ -70,14 +49,4 @@ pub(crate) fn verb_of(word: &str) -> Option<Verb>
         return Some(Verb::DropAttachment);
     }
     None
-}
-
-/// Whether two words are verbs whose edits change the same.
-pub(crate) fn are_alike(one: &str, other: &str) -> bool
-    ensures { IsTrue result → AreAlike one.now other.now }
-{
-    match (verb_of(one), verb_of(other)) {
-        (Some(one), Some(other)) => one.changed() == other.changed(),
-        _ => false,
-    }
 }

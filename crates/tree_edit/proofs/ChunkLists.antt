@@ -1,11 +1,10 @@
 -- Lists in chunks, one behind the other.
-use Rattle.std.proofs.Common.{◌≡◌, ℕ, zero, suc, ◌+◌, ◌≤◌, ◌<◌, length, List, [], ◌∷◌, ◌++◌, take, drop, map, get_or, refl, ap, sym, ◌∙◌, arith, append_assoc, length-append}
-use Rattle.std.specs.Prelude.{Option, Some, None, is_some, IfSome, IfNone, Bool, true, false, Ok, Err, slice_get, slice_set}
+use Rattle.std.proofs.Common.{◌≡◌, ℕ, zero, suc, ◌+◌, ◌<◌, length, List, [], ◌∷◌, ◌++◌, take, drop, map, get_or, refl, ap, sym, ◌∙◌, arith, append_assoc, length-append}
+use Rattle.std.specs.Prelude.{Option, Some, None, Ok, slice_get, slice_set}
 use Rattle.std.specs.List.{flat_map, remove}
-use Rattle.std.proofs.lemmas.List.{drop-drop, length-map}
+use Rattle.std.proofs.lemmas.List.{drop-drop}
 use Rattle.carrier_model.proofs.Trees.{drop_at}
-use Rattle.edit_model.specs.Edits.{dropped_at, no_place}
-use Rattle.tree_edit.proofs.Steps.{dropped_ok, dropped_past}
+use Rattle.edit_model.specs.Edits.{dropped_at, there, ◌>>=◌}
 
 get_front : {A : Type 0} (a b : List A) (k : ℕ) → k < length a → slice_get (a ++ b) k ≡ slice_get a k
 get_front [] b k lt = absurd (omega (arith, lt))
@@ -26,6 +25,16 @@ remove_behind : {A : Type 0} (a b : List A) (k n : ℕ) → n ≡ length a + k �
 remove_behind [] b k n is = let same : n ≡ k = omega (arith, is) in ap (remove b) same
 remove_behind (x ∷ a) b k zero is = absurd (omega (arith, is))
 remove_behind (x ∷ a) b k (suc n) is = ap (λ l. x ∷ l) (remove_behind a b k n (omega (arith, is)))
+
+set_front : {A : Type 0} (a b : List A) (k : ℕ) (x : A) → k < length a → slice_set (a ++ b) k x ≡ slice_set a k x ++ b
+set_front [] b k x lt = absurd (omega (arith, lt))
+set_front (y ∷ a) b zero x lt = refl
+set_front (y ∷ a) b (suc k) x lt = ap (λ l. y ∷ l) (set_front a b k x (omega (arith, lt)))
+
+set_behind : {A : Type 0} (a b : List A) (k n : ℕ) (x : A) → n ≡ length a + k → slice_set (a ++ b) n x ≡ a ++ slice_set b k x
+set_behind [] b k n x is = let same : n ≡ k = omega (arith, is) in ap (λ m. slice_set b m x) same
+set_behind (y ∷ a) b k zero x is = absurd (omega (arith, is))
+set_behind (y ∷ a) b k (suc n) x is = ap (λ l. y ∷ l) (set_behind a b k n x (omega (arith, is)))
 
 module _ {X A : Type 0} (f : X → List A) where
   -- in the chunk of a number
@@ -60,12 +69,32 @@ module _ {X A : Type 0} (f : X → List A) where
       ∙ (ap (λ l. f y ++ l) (chunk_remove xs last at left k x z is lt refl gone)
       ∙ sym (ap (λ l. remove l n) (append_assoc (f y) (flat_map f xs) last) ∙ remove_behind (f y) (flat_map f xs ++ last) k n here))
 
+  pub chunk_set : (xs : List X) (last : List A) (at left n : ℕ) (x z : X) (a : A) → slice_get xs at ≡ Some x → left < length (f x) → length (flat_map f (take at xs)) + left ≡ n → f z ≡ slice_set (f x) left a → flat_map f (slice_set xs at z) ++ last ≡ slice_set (flat_map f xs ++ last) n a
+  chunk_set [] last at left n x z a is lt sum made = absurd cc
+  chunk_set (y ∷ xs) last zero left n x z a is lt sum made =
+      let same : y ≡ x = cc in
+      let here : n ≡ left = omega (arith, sum) in
+      append_assoc (f z) (flat_map f xs) last
+      ∙ (ap (λ l. l ++ (flat_map f xs ++ last)) made
+      ∙ sym (ap (λ m. slice_set ((f y ++ flat_map f xs) ++ last) m a) here
+      ∙ (ap (λ l. slice_set l left a) (append_assoc (f y) (flat_map f xs) last)
+      ∙ (ap (λ w. slice_set (f w ++ (flat_map f xs ++ last)) left a) same ∙ set_front (f x) (flat_map f xs ++ last) left a lt))))
+  chunk_set (y ∷ xs) last (suc at) left n x z a is lt sum made =
+      let k : ℕ = length (flat_map f (take at xs)) + left in
+      let here : n ≡ length (f y) + k = omega (arith, sum, length-append (f y) (flat_map f (take at xs))) in
+      append_assoc (f y) (flat_map f (slice_set xs at z)) last
+      ∙ (ap (λ l. f y ++ l) (chunk_set xs last at left k x z a is lt refl made)
+      ∙ sym (ap (λ l. slice_set l n a) (append_assoc (f y) (flat_map f xs) last) ∙ set_behind (f y) (flat_map f xs ++ last) k n a here))
+
 -- in the last chunk
 pub last_get : {A : Type 0} (a b : List A) (left n : ℕ) → length a + left ≡ n → slice_get (a ++ b) n ≡ slice_get b left
 last_get a b left n sum = get_behind a b left n (sym sum)
 
 pub last_remove : {A : Type 0} (a b : List A) (left n : ℕ) → length a + left ≡ n → a ++ remove b left ≡ remove (a ++ b) n
 last_remove a b left n sum = sym (remove_behind a b left n (sym sum))
+
+pub last_set : {A : Type 0} (a b : List A) (left n : ℕ) (x : A) → length a + left ≡ n → a ++ slice_set b left x ≡ slice_set (a ++ b) n x
+last_set a b left n x sum = sym (set_behind a b left n x (sym sum))
 
 pub at_place : {A : Type 0} (xs : List A) (k : ℕ) (x : A) → k < length xs → x ≡ get_or xs k x → slice_get xs k ≡ Some x
 at_place [] k x lt is = absurd (omega (arith, lt))
@@ -106,7 +135,12 @@ map_get f [] k x is = absurd cc
 map_get f (y ∷ l) zero x is = let same : y ≡ x = cc in ap (λ z. Some (f z)) same
 map_get f (y ∷ l) (suc k) x is = map_get f l k x is
 
-pub dropped_chunked : {A B : Type 0} (f : A → B) (old new : List A) (k : ℕ) (r : Option A) (there : Bool) → there ≡ is_some r → IfSome r (λ x. slice_get old k ≡ Some x) → IfSome r (λ x. new ≡ remove old k) → IfNone r ((length old ≤ k) × (new ≡ old))
-    → (there ≡ true → dropped_at k (map f old) ≡ Ok (map f new)) × (there ≡ false → (dropped_at k (map f old) ≡ Err no_place) × (map f new ≡ map f old))
-dropped_chunked f old new k (Some x) there is at left past = (λ yes. dropped_ok k (map f old) (f x) (map_get f old k x at) ∙ ap Ok (sym (ap (map f) left ∙ map-remove f old k)), λ no. let both : true ≡ false = sym is ∙ no in absurd cc)
-dropped_chunked f old new k None there is at left past = (λ yes. let both : false ≡ true = sym is ∙ yes in absurd cc, λ no. (dropped_past k (map f old) (omega (arith, past.0, length-map old f)), ap (map f) past.1))
+-- without an element, or where there is none of its number
+pub dropped_map : {A B : Type 0} (f : A → B) (k : ℕ) (xs ys : List A) → dropped_at k xs ≡ Ok ys → dropped_at k (map f xs) ≡ Ok (map f ys)
+dropped_map {A = A} f k xs ys is = by (slice_get xs k) refl is
+  where
+    by : (o : Option A) → slice_get xs k ≡ o → (there o >>= (λ x. Ok (remove xs k))) ≡ Ok ys → dropped_at k (map f xs) ≡ Ok (map f ys)
+    by None at h = absurd cc
+    by (Some x) at h =
+        let same : remove xs k ≡ ys = cc in
+        rw (map_get f xs k x at) (ap Ok (sym (map-remove f xs k) ∙ ap (map f) same))

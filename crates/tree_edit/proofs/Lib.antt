@@ -1,8 +1,9 @@
 mod ChunkLists
-mod Composed
 mod Found
+mod Kept
 mod Made
 mod PropChanges
 mod Once
+mod Rows
 mod Steps
 mod Stores

@@ -1,16 +1,15 @@
 -- Steps of edits, where what they need is there and where it isn't.
-use Rattle.std.proofs.Common.{◌≡◌, ℕ, ◌≤◌, length, List, refl, ap, ◌∙◌}
+use Rattle.std.proofs.Common.{◌≡◌, ℕ, ◌≤◌, length, List, refl}
 use Rattle.std.specs.Prelude.{Result, Ok, Err, IfOk, IfErr, Some, slice_get, slice_set}
 use Rattle.std.specs.List.{remove}
-use Rattle.std.proofs.lemmas.List.{set-set}
 use Rattle.std.proofs.lemmas.Option.{slice_get_past}
 use Rattle.carrier_model.specs.Tree.{Message, message, Attached, Body, attachments_from}
 use Rattle.carrier_model.specs.Values.{Prop}
 use Rattle.carrier_model.proofs.Trees.{listed-from}
 use Rattle.tree_edit.specs.Changes.{IsCauseOf}
 use Rattle.tree_edit.specs.Meaning.{why_of}
-use Rattle.tree_edit.specs.declared.editing.OnceEnd.{OnceEnd}
-use Rattle.tree_edit.specs.declared.editing.OnceEnd.TheVariants as ends
+use Rattle.tree_edit.specs.declared.ends.OnceEnd.{OnceEnd}
+use Rattle.tree_edit.specs.declared.ends.OnceEnd.TheVariants as ends
 use Rattle.edit_model.specs.Edits.{Why, no_place, changed_at, dropped_at, with_attachments, with_props, with_body, body_with}
 
 pub changed_ok : {A : Type 0} (change : A → Result A Why) (k : ℕ) (xs : List A) (x y : A) → slice_get xs k ≡ Some x → change x ≡ Ok y → changed_at change k xs ≡ Ok (slice_set xs k y)
@@ -43,6 +42,9 @@ props_err change x why fails = rw fails refl
 pub body_ok : (change : Message → Result Message Why) (x : Attached) (body : Body) → body_with change x.1 ≡ Ok body → with_body change x ≡ Ok (x.0, body)
 body_ok change x body made = rw made refl
 
+pub body_err : (change : Message → Result Message Why) (x : Attached) (why : Why) → body_with change x.1 ≡ Err why → with_body change x ≡ Err why
+body_err change x why fails = rw fails refl
+
 -- what is caused below is caused above
 pub cause_above : {A C : Type 0} (r : Result A Why) (s : Result C Why) (e : OnceEnd) → ((why : Why) → r ≡ Err why → s ≡ Err why) → IsCauseOf r e → IsCauseOf s e
 cause_above r s (ends.Cannot why) step h = step (why_of why) h
@@ -56,7 +58,3 @@ ok_above (Err e) P Q step h = tt
 pub err_above : {T A C : Type 0} (result : Result T OnceEnd) (r : Result A Why) (s : Result C Why) → ((why : Why) → r ≡ Err why → s ≡ Err why) → IfErr result (IsCauseOf r) → IfErr result (IsCauseOf s)
 err_above (Ok n) r s step h = tt
 err_above (Err e) r s step h = cause_above r s e step h
-
--- two writes at one place
-pub put_twice : {A : Type 0} (k n : ℕ) (l m r : List A) (x y : A) → m ≡ slice_set l k x → r ≡ slice_set m k y → k ≡ n → r ≡ slice_set l n y
-put_twice k n l m r x y one two same = two ∙ (ap (λ z. slice_set z k y) one ∙ (set-set l k x y ∙ ap (λ i. slice_set l i y) same))

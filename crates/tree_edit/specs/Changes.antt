@@ -1,12 +1,11 @@
--- What edits do to one message, one after another.
-use Rattle.std.specs.Prelude.{◌≡◌, ℕ, List, [], ◌∷◌, ◌++◌, Result, Ok, Err}
-use Rattle.std.specs.List.{AllByRecursion}
+-- What one edit does to the part of a message that it changes.
+use Rattle.std.specs.Prelude.{◌≡◌, List, [], ◌∷◌, ◌++◌, Result, Ok, Err}
 use Rattle.carrier_model.specs.Tree.{Message, Attached}
 use Rattle.carrier_model.specs.Values.{Prop}
-use Rattle.edit_model.specs.Edits.{Edit, set_prop, remove_prop, add_recipient, drop_recipient, drop_attachment, Why, with_prop, without_prop, with_recipients, with_attachments, dropped_at, at_spot, ◌>>=◌}
-use Rattle.edit_words.specs.Parts.{Part, properties, recipients, attachments, path_of, part_of}
-use Rattle.tree_edit.specs.declared.editing.OnceEnd.{OnceEnd}
-use Rattle.tree_edit.specs.declared.editing.OnceEnd.TheVariants.{Cannot, NoMemory}
+use Rattle.edit_model.specs.Edits.{Edit, set_prop, remove_prop, add_recipient, drop_recipient, drop_attachment, Why, with_prop, without_prop, with_recipients, with_attachments, dropped_at, at_spot}
+use Rattle.edit_words.specs.Parts.{Part, properties, recipients, attachments}
+use Rattle.tree_edit.specs.declared.ends.OnceEnd.{OnceEnd}
+use Rattle.tree_edit.specs.declared.ends.OnceEnd.TheVariants.{Cannot, NoMemory}
 use Rattle.tree_edit.specs.Meaning.{why_of}
 
 -- what an edit does to the list that it changes; another list stays
@@ -31,26 +30,11 @@ on_attachments (add_recipient path) list = Ok list
 on_attachments (drop_recipient path k) list = Ok list
 on_attachments (drop_attachment path k) list = dropped_at k list
 
--- an edit is done, and then others in turn
-abbrev pub in_turn : {A : Type 0} → (Edit → A → Result A Why) → Edit → List Edit → A → Result A Why
-in_turn on e [] x = on e x
-in_turn on e (f ∷ es) x = on e x >>= in_turn on f es
-
--- the same with a message of which all of them change one part
-abbrev pub on_part : Part → Edit → List Edit → Message → Result Message Why
-on_part (properties spot) e es = at_spot (in_turn on_props e es) spot
-on_part recipients e es = with_recipients (in_turn on_recipients e es)
-on_part attachments e es = with_attachments (in_turn on_attachments e es)
-
--- the edit changes the part of the message at the end of the path
-abbrev pub IsOf : List ℕ → Part → Edit → Type 0
-IsOf path part e = (path_of e ≡ path) × (part_of e ≡ part)
-
--- the edits change one part of one message
-pub record ChangeOnePart (es : List Edit) : Type 0 where
-  pub path : List ℕ
-  pub part : Part
-  pub each : AllByRecursion (IsOf path part) es
+-- the same with a message of which the edit changes a part
+abbrev pub on_part : Part → Edit → Message → Result Message Why
+on_part (properties spot) e = at_spot (on_props e) spot
+on_part recipients e = with_recipients (on_recipients e)
+on_part attachments e = with_attachments (on_attachments e)
 
 -- why there is no result; or there was no memory
 abbrev pub IsCauseOf : {A : Type 0} → Result A Why → OnceEnd → Type 0

@@ -1,207 +1,122 @@
-//! Edits of one part of a message, done in place. Each call answers how many of the edits behind the first were done.
-ghost use Rattle.std.specs.Prelude.{◌≡◌, ◌≤◌, [], drop, length, take, ◌<◌, IfOk, IfErr, Ok, Err};
-ghost use Rattle.edit_model.specs.Edits.{at_path, at_spot, body_with, changed_at, with_body, with_props};
-ghost use Rattle.msg_tree.specs.Meaning.{tree_of, list_of, body_of};
+//! One edit of a message.
+ghost use Rattle.std.specs.Prelude.{◌≡◌, drop, IfErr, OnOk, Ok};
+ghost use Rattle.edit_model.specs.Edits.{at_path, at_spot, body_with, changed_at, edited_once, with_body};
 ghost use Rattle.edit_words.specs.Meaning.{edit_of, spot_of};
 ghost use Rattle.edit_words.specs.Parts.{part_of, path_of};
-ghost use Rattle.tree_edit.specs.Changes.{IsCauseOf, in_turn, on_part, on_props};
-ghost use Rattle.tree_edit.specs.declared.editing.OnceEnd.TheVariants as ends;
-ghost use Rattle.tree_edit.specs.declared.ends.EditWhy.TheVariants as whys;
+ghost use Rattle.tree_edit.specs.Changes.{IsCauseOf, on_part, on_props};
+ghost use Rattle.tree_edit.specs.Opened.{open_body_of, open_list_of, open_tree_of};
 
-use crate::attachment_chunks::edit_attachments;
-use crate::ends::EditWhy;
-use crate::lists::edit_props;
-use crate::recipient_chunks::edit_recipients;
-use carrier_io::{Holds, NoMemory};
-use edit_words::{Edit, EditRun, Part, Spot};
-use msg_tree::{Attachment, Attachments, Body, Message, Recipients};
-use prop_values::Props;
+use crate::chunked_list::{put_row, take_row};
+use crate::ends::{EditWhy, OnceEnd};
+use crate::open_attachments::edit_attachment;
+use crate::open_messages::{OpenAttachment, OpenAttachments, OpenBody, OpenMessage};
+use crate::open_props::edit_props;
+use crate::open_recipients::edit_recipient;
+use carrier_io::Holds;
+use edit_words::{Edit, Part, Spot};
+use msg_tree::Attachment;
 use std::alloc::Global;
-
-/// Why an edit wasn't done.
-#[derive(Clone, Copy, Debug, PartialEq, Eq)]
-pub enum OnceEnd {
-    /// It can't be done.
-    Cannot(EditWhy),
-    /// Memory was refused.
-    NoMemory,
-}
-
-impl From<NoMemory> for OnceEnd {
-    ghost from_gives = { λ _ e. e ≡ ends.NoMemory };
-
-    fn from(_: NoMemory) -> OnceEnd {
-        OnceEnd::NoMemory
-    }
-}
-
-/// The number as a place in a list of so many, where it is one.
-pub fn place_in(number: u64, count: usize) -> Result<usize, OnceEnd>
-    ensures ok { IfOk result (λ k. (k ≡ number) × (k < count)) }
-    ensures err { IfErr result (λ e. (e ≡ ends.Cannot whys.NoPlace) × (count ≤ number)) }
-{
-    if number < count as u64 {
-        Ok(number as usize)
-    } else {
-        Err(OnceEnd::Cannot(EditWhy::NoPlace))
-    }
-}
-
-/// Edits the properties of a recipient.
-fn edit_recipient<C: Holds<Vec<u8>>>(
-    alloc: Global,
-    recipients: &mut Recipients<C>,
-    number: u64,
-    edit: Edit,
-    behind: &EditRun<'_>,
-) -> Result<usize, OnceEnd>
-    ensures count { IfOk result (λ n. n ≤ length behind.now) }
-    ensures ok { IfOk result (λ n. changed_at (in_turn on_props (edit_of edit) (take n behind.now)) number recipients.old ≡ Ok recipients.new) }
-    ensures err { IfErr result (IsCauseOf (changed_at (on_props (edit_of edit)) number recipients.old)) }
-{
-    let k = place_in(number, recipients.len())?;
-    let mut props = recipients.replace(k, Props::new(alloc));
-    let count = edit_props(alloc, &mut props, edit, behind)?;
-    drop(recipients.replace(k, props));
-    Ok(count)
-}
-
-/// Edits the properties of an attachment.
-fn edit_attachment<C: Holds<Vec<u8>>>(
-    alloc: Global,
-    attachments: &mut Attachments<C>,
-    number: u64,
-    edit: Edit,
-    behind: &EditRun<'_>,
-) -> Result<usize, OnceEnd>
-    ensures count { IfOk result (λ n. n ≤ length behind.now) }
-    ensures ok { IfOk result (λ n. changed_at (with_props (in_turn on_props (edit_of edit) (take n behind.now))) number (list_of C.bytes attachments.old) ≡ Ok (list_of C.bytes attachments.new)) }
-    ensures err { IfErr result (IsCauseOf (changed_at (with_props (on_props (edit_of edit))) number (list_of C.bytes attachments.old))) }
-{
-    let k = place_in(number, attachments.len())?;
-    let mut held = attachments.replace(k, Attachment::empty(alloc));
-    let count = edit_props(alloc, &mut held.props, edit, behind)?;
-    drop(attachments.replace(k, held));
-    Ok(count)
-}
 
 /// Edits the properties of a spot.
 fn edit_spot<C: Holds<Vec<u8>>>(
     alloc: Global,
-    message: &mut Message<C>,
+    message: &mut OpenMessage<C>,
     spot: Spot,
     edit: Edit,
-    behind: &EditRun<'_>,
-) -> Result<usize, OnceEnd>
-    ensures count { IfOk result (λ n. n ≤ length behind.now) }
-    ensures ok { IfOk result (λ n. at_spot (in_turn on_props (edit_of edit) (take n behind.now)) (spot_of spot) (tree_of C.bytes message.old) ≡ Ok (tree_of C.bytes message.new)) }
-    ensures err { IfErr result (IsCauseOf (at_spot (on_props (edit_of edit)) (spot_of spot) (tree_of C.bytes message.old))) }
+) -> Result<(), OnceEnd>
+    ensures ok { OnOk result (at_spot (on_props (edit_of edit)) (spot_of spot) (open_tree_of C.bytes message.old) ≡ Ok (open_tree_of C.bytes message.new)) }
+    ensures err { IfErr result (IsCauseOf (at_spot (on_props (edit_of edit)) (spot_of spot) (open_tree_of C.bytes message.old))) }
 {
     match spot {
-        Spot::Message => edit_props(alloc, &mut message.props, edit, behind),
-        Spot::Recipient(k) => edit_recipient(alloc, &mut message.recipients, k, edit, behind),
-        Spot::Attachment(k) => edit_attachment(alloc, &mut message.attachments, k, edit, behind),
+        Spot::Message => edit_props(alloc, &mut message.props, edit),
+        Spot::Recipient(k) => edit_recipient(alloc, &mut message.recipients, k, edit),
+        Spot::Attachment(k) => edit_attachment(alloc, &mut message.attachments, k, edit),
     }
 }
 
-/// Does edits of a part of a message.
+/// Edits a part of a message.
 fn edit_here<C: Holds<Vec<u8>>>(
     alloc: Global,
-    message: &mut Message<C>,
+    message: &mut OpenMessage<C>,
     edit: Edit,
-    behind: &EditRun<'_>,
-) -> Result<usize, OnceEnd>
-    ensures count { IfOk result (λ n. n ≤ length behind.now) }
-    ensures ok { IfOk result (λ n. on_part (part_of (edit_of edit)) (edit_of edit) (take n behind.now) (tree_of C.bytes message.old) ≡ Ok (tree_of C.bytes message.new)) }
-    ensures err { IfErr result (IsCauseOf (on_part (part_of (edit_of edit)) (edit_of edit) [] (tree_of C.bytes message.old))) }
+) -> Result<(), OnceEnd>
+    ensures ok { OnOk result (on_part (part_of (edit_of edit)) (edit_of edit) (open_tree_of C.bytes message.old) ≡ Ok (open_tree_of C.bytes message.new)) }
+    ensures err { IfErr result (IsCauseOf (on_part (part_of (edit_of edit)) (edit_of edit) (open_tree_of C.bytes message.old))) }
 {
     match edit.part() {
-        Part::Props(spot) => edit_spot(alloc, message, spot, edit, behind),
-        Part::Recipients => edit_recipients(alloc, &mut message.recipients, edit, behind),
-        Part::Attachments => edit_attachments(alloc, &mut message.attachments, edit, behind),
+        Part::Props(spot) => edit_spot(alloc, message, spot, edit),
+        Part::Recipients => message.recipients.edit(alloc, edit),
+        Part::Attachments => message.attachments.edit(alloc, edit),
     }
 }
 
-/// Does edits of a part of the message to which what is left of their path leads.
+/// Edits the message to which what is left of the path leads.
 #[cycle(below)]
 fn edit_below<C: Holds<Vec<u8>>>(
     alloc: Global,
-    message: &mut Message<C>,
+    message: &mut OpenMessage<C>,
     at: usize,
     edit: Edit,
-    behind: &EditRun<'_>,
-) -> Result<usize, OnceEnd>
-    ensures count { IfOk result (λ n. n ≤ length behind.now) }
-    ensures ok { IfOk result (λ n. at_path (on_part (part_of (edit_of edit)) (edit_of edit) (take n behind.now)) (drop at (path_of (edit_of edit))) (tree_of C.bytes message.old) ≡ Ok (tree_of C.bytes message.new)) }
-    ensures err { IfErr result (IsCauseOf (at_path (on_part (part_of (edit_of edit)) (edit_of edit) []) (drop at (path_of (edit_of edit))) (tree_of C.bytes message.old))) }
+) -> Result<(), OnceEnd>
+    ensures ok { OnOk result (at_path (on_part (part_of (edit_of edit)) (edit_of edit)) (drop at (path_of (edit_of edit))) (open_tree_of C.bytes message.old) ≡ Ok (open_tree_of C.bytes message.new)) }
+    ensures err { IfErr result (IsCauseOf (at_path (on_part (part_of (edit_of edit)) (edit_of edit)) (drop at (path_of (edit_of edit))) (open_tree_of C.bytes message.old))) }
 {
     let path = edit.path();
     if at >= path.len() {
-        return edit_here(alloc, message, edit, behind);
+        return edit_here(alloc, message, edit);
     }
     let number = *path.get(at);
-    edit_in_attachment(
-        alloc,
-        &mut message.attachments,
-        number,
-        at + 1,
-        edit,
-        behind,
-    )
+    edit_in_attachment(alloc, &mut message.attachments, number, at + 1, edit)
 }
 
-/// Does edits of a part of the message of an attachment or of one below it.
+/// Edits the message of an attachment, or one below it.
 #[cycle(below)]
 fn edit_in_attachment<C: Holds<Vec<u8>>>(
     alloc: Global,
-    attachments: &mut Attachments<C>,
+    attachments: &mut OpenAttachments<C>,
     number: u64,
     at: usize,
     edit: Edit,
-    behind: &EditRun<'_>,
-) -> Result<usize, OnceEnd>
-    ensures count { IfOk result (λ n. n ≤ length behind.now) }
-    ensures ok { IfOk result (λ n. changed_at (with_body (at_path (on_part (part_of (edit_of edit)) (edit_of edit) (take n behind.now)) (drop at (path_of (edit_of edit))))) number (list_of C.bytes attachments.old) ≡ Ok (list_of C.bytes attachments.new)) }
-    ensures err { IfErr result (IsCauseOf (changed_at (with_body (at_path (on_part (part_of (edit_of edit)) (edit_of edit) []) (drop at (path_of (edit_of edit))))) number (list_of C.bytes attachments.old))) }
+) -> Result<(), OnceEnd>
+    ensures ok { OnOk result (changed_at (with_body (at_path (on_part (part_of (edit_of edit)) (edit_of edit)) (drop at (path_of (edit_of edit))))) number (open_list_of C.bytes attachments.old) ≡ Ok (open_list_of C.bytes attachments.new)) }
+    ensures err { IfErr result (IsCauseOf (changed_at (with_body (at_path (on_part (part_of (edit_of edit)) (edit_of edit)) (drop at (path_of (edit_of edit))))) number (open_list_of C.bytes attachments.old))) }
 {
-    let k = place_in(number, attachments.len())?;
-    let mut held = attachments.replace(k, Attachment::empty(alloc));
-    let count = edit_in_body(alloc, &mut held.body, at, edit, behind)?;
-    drop(attachments.replace(k, held));
-    Ok(count)
+    let mut rows = attachments.take_rows(alloc)?;
+    let blank = OpenAttachment::new(Attachment::empty(alloc));
+    let mut attachment = take_row(&mut rows, number, blank)?;
+    edit_in_body(alloc, &mut attachment.body, at, edit)?;
+    put_row(&mut rows, number, attachment);
+    *attachments = OpenAttachments::Open(rows);
+    Ok(())
 }
 
-/// Does edits of a part of a message that an attachment holds, or of one below it.
+/// Edits a message that an attachment holds, or one below it.
 #[cycle(below)]
 fn edit_in_body<C: Holds<Vec<u8>>>(
     alloc: Global,
-    body: &mut Body<C>,
+    body: &mut OpenBody<C>,
     at: usize,
     edit: Edit,
-    behind: &EditRun<'_>,
-) -> Result<usize, OnceEnd>
-    ensures count { IfOk result (λ n. n ≤ length behind.now) }
-    ensures ok { IfOk result (λ n. body_with (at_path (on_part (part_of (edit_of edit)) (edit_of edit) (take n behind.now)) (drop at (path_of (edit_of edit)))) (body_of C.bytes body.old) ≡ Ok (body_of C.bytes body.new)) }
-    ensures err { IfErr result (IsCauseOf (body_with (at_path (on_part (part_of (edit_of edit)) (edit_of edit) []) (drop at (path_of (edit_of edit)))) (body_of C.bytes body.old))) }
+) -> Result<(), OnceEnd>
+    ensures ok { OnOk result (body_with (at_path (on_part (part_of (edit_of edit)) (edit_of edit)) (drop at (path_of (edit_of edit)))) (open_body_of C.bytes body.old) ≡ Ok (open_body_of C.bytes body.new)) }
+    ensures err { IfErr result (IsCauseOf (body_with (at_path (on_part (part_of (edit_of edit)) (edit_of edit)) (drop at (path_of (edit_of edit)))) (open_body_of C.bytes body.old))) }
 {
-    match body {
-        Body::Message(inner) => edit_below(alloc, inner, at, edit, behind),
-        Body::Plain => Err(OnceEnd::Cannot(EditWhy::NoPlace)),
-        Body::Store(_) => Err(OnceEnd::Cannot(EditWhy::NoPlace)),
-    }
+    let Some(mut inner) = body.take_message(alloc)? else {
+        return Err(OnceEnd::Cannot(EditWhy::NoPlace));
+    };
+    edit_below(alloc, &mut inner, at, edit)?;
+    *body = OpenBody::Message(inner);
+    Ok(())
 }
 
-/// Does an edit, and those behind it, which change the same part of the same message, up to the first that can't be done. The
-/// whole message is of no use where the first wasn't.
-pub fn edit_on<C: Holds<Vec<u8>>>(
+/// Does an edit. The message is of no use where it isn't done.
+pub fn edit_once<C: Holds<Vec<u8>>>(
     alloc: Global,
-    message: &mut Message<C>,
+    message: &mut OpenMessage<C>,
     edit: Edit,
-    behind: &EditRun<'_>,
-) -> Result<usize, OnceEnd>
-    ensures count { IfOk result (λ n. n ≤ length behind.now) }
-    ensures ok { IfOk result (λ n. at_path (on_part (part_of (edit_of edit)) (edit_of edit) (take n behind.now)) (path_of (edit_of edit)) (tree_of C.bytes message.old) ≡ Ok (tree_of C.bytes message.new)) }
-    ensures err { IfErr result (IsCauseOf (at_path (on_part (part_of (edit_of edit)) (edit_of edit) []) (path_of (edit_of edit)) (tree_of C.bytes message.old))) }
+) -> Result<(), OnceEnd>
+    ensures ok { OnOk result (edited_once (edit_of edit) (open_tree_of C.bytes message.old) ≡ Ok (open_tree_of C.bytes message.new)) }
+    ensures err { IfErr result (IsCauseOf (edited_once (edit_of edit) (open_tree_of C.bytes message.old))) }
 {
-    edit_below(alloc, message, 0, edit, behind)
+    edit_below(alloc, message, 0, edit)
 }

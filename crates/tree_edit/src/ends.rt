@@ -1,6 +1,7 @@
 //! Why edits can't be done.
 ghost use Rattle.std.specs.Prelude.{◌≡◌};
 ghost use Rattle.tree_edit.specs.declared.ends.EditEnd.TheVariants as ends;
+ghost use Rattle.tree_edit.specs.declared.ends.OnceEnd.TheVariants as once;
 
 use carrier_io::NoMemory;
 
@@ -36,5 +37,22 @@ impl From<NoMemory> for EditEnd {
 
     fn from(_: NoMemory) -> EditEnd {
         EditEnd::NoMemory
+    }
+}
+
+/// Why an edit wasn't done.
+#[derive(Clone, Copy, Debug, PartialEq, Eq)]
+pub enum OnceEnd {
+    /// It can't be done.
+    Cannot(EditWhy),
+    /// Memory was refused.
+    NoMemory,
+}
+
+impl From<NoMemory> for OnceEnd {
+    ghost from_gives = { λ _ e. e ≡ once.NoMemory };
+
+    fn from(_: NoMemory) -> OnceEnd {
+        OnceEnd::NoMemory
     }
 }

@@ -1,15 +1,16 @@
 //! The trees that edits make.
 #![tactic(auto)]
 
-mod attachment_chunks;
 mod chunked_list;
-mod editable;
+mod closing;
 mod editing;
 mod ends;
-mod lists;
+mod open_attachments;
+mod open_messages;
+mod open_props;
+mod open_recipients;
 mod prop_changes;
-mod recipient_chunks;
-mod runs;
+mod prop_lists;
 mod whole;
 
 pub use ends::{EditEnd, EditFault, EditWhy};

@@ -16,7 +16,6 @@ use std::alloc::Global;
 use std::cmp::Ordering;
 use std::collections::BTreeMap;
 use std::marker::Model;
-use std::mem::replace;
 
 /// The key and the kind of a property.
 #[derive(Drop)]
@@ -124,14 +123,14 @@ impl Pair {
 }
 
 impl<C: Blob> PropChanges<C> {
-    /// Takes the properties out of a list. None has changed.
-    pub fn take_from(alloc: Global, props: &mut Props<C>) -> PropChanges<C>
-        ensures { result ≡ props.old }
+    /// A list of which nothing has changed.
+    pub fn new(alloc: Global, list: Props<C>) -> PropChanges<C>
+        ensures { result ≡ list }
     {
         // What a look-up promises says that the list is sorted.
-        let _ = props.find(&Key::Id(0), Kind::Integer16);
+        let _ = list.find(&Key::Id(0), Kind::Integer16);
         PropChanges {
-            list: replace(props, Props::new(alloc)),
+            list,
             changes: BTreeMap::new(alloc),
         }
     }

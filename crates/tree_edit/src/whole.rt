@@ -4,9 +4,10 @@ ghost use Rattle.edit_model.specs.Edits.{edited_tree};
 ghost use Rattle.msg_tree.specs.Whole.{plain_of};
 ghost use Rattle.tree_edit.specs.Meaning.{IsEndOf};
 
-use crate::editing::OnceEnd;
-use crate::ends::{EditEnd, EditFault};
-use crate::runs::{edit_next, run_end};
+use crate::closing::close_message;
+use crate::editing::edit_once;
+use crate::ends::{EditEnd, EditFault, OnceEnd};
+use crate::open_messages::OpenMessage;
 use carrier_io::{Blob, Holds};
 use edit_words::Edits;
 use msg_tree::{Tree, copy_owned};
@@ -35,13 +36,10 @@ pub fn edit_in_place<C: Holds<Vec<u8>>>(
     ensures done { IfOk result (λ t. edited_tree edits.now (plain_of tree) ≡ Ok (plain_of t)) }
     ensures refused { IfErr result (IsEndOf edits.now (plain_of tree)) }
 {
-    let mut message = tree.into_message();
-    let mut at = 0;
-    let mut end = 0;
-    while at < edits.len() {
-        end = run_end(edits, at, end);
-        match edit_next(alloc, &mut message, edits, at, end) {
-            Ok(count) => at += count,
+    let mut message = OpenMessage::new(tree.into_message());
+    for at in 0..edits.len() {
+        match edit_once(alloc, &mut message, edits.read(alloc, at)?) {
+            Ok(()) => {}
             Err(OnceEnd::Cannot(why)) => {
                 let edit = at as u64;
                 return Err(EditEnd::Fault(EditFault { edit, why }));
@@ -49,5 +47,5 @@ pub fn edit_in_place<C: Holds<Vec<u8>>>(
             Err(OnceEnd::NoMemory) => return Err(EditEnd::NoMemory),
         }
     }
-    Ok(Tree::from_shallow(message))
+    Ok(Tree::from_shallow(close_message(alloc, message)?))
 }

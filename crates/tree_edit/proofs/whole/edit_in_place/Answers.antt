@@ -1,26 +1,26 @@
-use Rattle.std.proofs.Common.{◌∙◌, sym, arith}
-use Rattle.msg_tree.specs.Meaning.{tree_of}
+use Rattle.std.proofs.Common.{◌∙◌, sym}
+use Rattle.edit_model.proofs.KeptTrees.{once_depth}
+use Rattle.edit_words.specs.Meaning.{edit_of}
 use Rattle.tree_edit.specs.Meaning.{why_of}
-use Rattle.tree_edit.proofs.Composed.{from_made, makes_depth, makes_stores, run_left}
-use Rattle.tree_edit.proofs.Once.{from_fails, some_edit}
+use Rattle.tree_edit.specs.Opened.{open_tree_of}
+use Rattle.tree_edit.proofs.Once.{from_done, from_fails}
+use Rattle.tree_edit.proofs.Stores.{once_stores}
 use Rattle.tree_edit.proofs.whole.edit_in_place.Goals as goal
 
 pub loop-at-preserved : goal.loop-at-preserved
 loop-at-preserved g c =
-    let old = tree_of g.C.Blob.bytes c.loop-at.message in
-    let new = tree_of g.C.Blob.bytes c.edit_next.new.message in
-    let bounds = c.in-Ok.ensures.count in
-    let made = c.in-Ok.ensures.ok in (
-      sym (from_made c.args.edits.now c.loop-at.at c.in-Ok.count old new (omega (arith, bounds.1, c.run_end-end.ensures.bounds.1)) made) ∙ c.loop-at.invariant.0,
-      makes_depth _ 32 old new c.loop-at.invariant.1 made,
-      makes_stores _ old new c.loop-at.invariant.2 made,
-      bounds.1,
-      c.run_end-end.ensures.bounds.1,
-      run_left c.args.edits.now c.loop-at.at c.in-Ok.count c.run_end-end.result bounds.1 c.run_end-end.ensures.run,
-    )
+    let edit = edit_of c.in_ok-read.field-0 in
+    let old = open_tree_of g.C.Blob.bytes c.loop-at.message in
+    let new = open_tree_of g.C.Blob.bytes c.edit_once.new.message in
+    let made = c.in-Ok.ensures.ok in
+    record {
+      left = sym (from_done c.args.edits.now c.loop-at.at edit old new c.in_ok-read.ensures made) ∙ c.loop-at.invariant.left;
+      depth = once_depth edit 32 old new c.loop-at.invariant.depth made;
+      stores = once_stores edit old new c.loop-at.invariant.stores made;
+    }
 
 pub returns-in-Err-Cannot-clause-refused : goal.returns-in-Err-Cannot-clause-refused
 returns-in-Err-Cannot-clause-refused g c =
-    let (edit, at) = some_edit c.args.edits.now c.loop-at.at (omega (arith, c.loop-at-test.true, c.len.ensures)) in
-    let fails = rw c.in-Err-Cannot.field-0-is at (c.in-Err-Cannot.ensures.err edit at) in
-    rw c.in-Err-Cannot.field-0-is (sym c.loop-at.invariant.0 ∙ from_fails c.args.edits.now c.loop-at.at edit (tree_of g.C.Blob.bytes c.loop-at.message) (why_of c.in-Err-Cannot.why) at fails)
+    let edit = edit_of c.in_ok-read.field-0 in
+    let fails = rw c.in-Err-Cannot.field-0-is at c.in-Err-Cannot.ensures.err in
+    rw c.in-Err-Cannot.field-0-is (sym c.loop-at.invariant.left ∙ from_fails c.args.edits.now c.loop-at.at edit (open_tree_of g.C.Blob.bytes c.loop-at.message) (why_of c.in-Err-Cannot.why) c.in_ok-read.ensures fails)
